@@ -1,0 +1,4 @@
+pub mod Plains
+pub mod CoefficientLaws
+pub mod BlockLaws
+pub mod ModeLaws

@@ -1,0 +1,4 @@
+pub mod SiteLaws
+pub mod CountLaws
+pub mod RowLaws
+pub mod MatrixLaws

@@ -1,0 +1,4 @@
+pub mod Sites
+pub mod Counts
+pub mod Rows
+pub mod Matrices

@@ -29,7 +29,7 @@ fn place(n: u8, k: u8, l: u8) -> usize
 }
 
 // How many counts belong to the matrix.
-fn area(n: u8) -> usize
+pub fn area(n: u8) -> usize
     requires { ⌜ n ≤ 8 ⌝ }
     ensures is { λ r. ⌜ r ≡ n * n ⌝ }
     ensures fits { λ r. ⌜ r ≤ 64 ⌝ }

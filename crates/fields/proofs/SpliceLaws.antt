@@ -50,3 +50,9 @@ unfolding splice
 splice-within p r ys n h =
     let h₁ : n ≤ length p = omega arith in
     rw (take-append-le n p r h₁, drop-append-le (n + length ys) p r h, append-assoc (take n p) (ys ++ drop (n + length ys) p) r, append-assoc ys (drop (n + length ys) p) r)
+
+-- one more part behind those laid from the start
+pub splice-next : (B p ys : List Bool) (n : ℕ) → length p ≡ n → n ≤ length B → splice (splice B 0 p) n ys ≡ splice B 0 (p ++ ys)
+splice-next B p ys n e h =
+    let at : n ≡ 0 + length p = omega arith in
+    ap (λ z. splice (splice B 0 p) z ys) at ∙ splice-splice B p ys 0 (omega arith)

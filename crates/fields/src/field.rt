@@ -31,7 +31,8 @@ pub fn put(place: &mut [u8], at: usize, width: u32, value: u32)
 // The number in the field of `width` bits from `at` on.
 pub fn get(bytes: &[u8], at: usize, width: u32) -> u32
     requires { ⌜ width ≤ 32 ⌝ ∗ ⌜ at + width < 2 ^ 64 ⌝ ∗ ⌜ at + width ≤ 8 * length (now bytes) ⌝ }
-    ensures { λ r. ⌜ r ≡ field-at (bits-of (now (bytes .entry))) at width ⌝ }
+    ensures value { λ r. ⌜ r ≡ field-at (bits-of (now (bytes .entry))) at width ⌝ }
+    ensures small { λ r. ⌜ r < 2 ^ width ⌝ }
 {
     let mut pos = at;
     let mut left = width;

@@ -18,11 +18,11 @@ use Rattle.fields.specs.Bits.{bits, num}
 use Rattle.fields.specs.Fields.{run, field, splice, row, numbers}
 use Rattle.fields.proofs.Inverses.{run-take}
 use Rattle.fields.proofs.RowLaws.{row-length, row-push, row-numbers, numbers-row, numbers-at, numbers-small}
-use Rattle.fields.proofs.SpliceLaws.{splice-none}
+use Rattle.fields.proofs.SpliceLaws.{splice-none, splice-next}
 use Rattle.values.specs.Kinds.{Kind, Lawful}
 use Rattle.values.specs.Blocks.{samples, block-of, block-kind}
 use Rattle.values.specs.declared.block.Block.{Block}
-use Rattle.values.proofs.Plains.{blank, blank-length, over-blank, laid-next}
+use Rattle.values.proofs.Plains.{blank, blank-length, over-blank}
 
 pub same-block : (x y : Block) → x .first ≡ y .first → x .second ≡ y .second → x .third ≡ y .third → x .fourth ≡ y .fourth → x .fifth ≡ y .fifth → x .sixth ≡ y .sixth → x .seventh ≡ y .seventh → x .eighth ≡ y .eighth → x ≡ y
 same-block x y p0 p1 p2 p3 p4 p5 p6 p7 =
@@ -109,7 +109,7 @@ block-lawful = record {
 -- Writing: one more sample behind those laid from the start.
 pub sample-laid : (P Q : List Bool) (xs : List ℕ) (x n : ℕ) → P ≡ splice blank 0 (row 16 xs) → n ≡ 16 * length xs → n ≤ 256 → Q ≡ splice P n (bits 16 x) → Q ≡ splice blank 0 (row 16 (xs ++ (x ∷ [])))
 sample-laid P Q xs x n e l h q =
-    q ∙ ap (λ p. splice p n (bits 16 x)) e ∙ laid-next blank (row 16 xs) (bits 16 x) n (row-length 16 xs ∙ sym l) (omega (arith, blank-length)) ∙ ap (splice blank 0) (sym (row-push 16 xs x))
+    q ∙ ap (λ p. splice p n (bits 16 x)) e ∙ splice-next blank (row 16 xs) (bits 16 x) n (row-length 16 xs ∙ sym l) (omega (arith, blank-length)) ∙ ap (splice blank 0) (sym (row-push 16 xs x))
 
 pub none-laid : blank ≡ splice blank 0 (row 16 [])
 unfolding row

@@ -19,6 +19,7 @@ use Rattle.std.specs.declared.result.Result.the-variants.{Ok, Err}
 use Rattle.fields.specs.Bits.{bits, num}
 use Rattle.fields.specs.Fields.{splice}
 use Rattle.fields.proofs.BitLaws.{bits-length, num-bits, bits-num}
+use Rattle.fields.proofs.SpliceLaws.{splice-next}
 use Rattle.values.specs.Kinds.{Kind, Lawful}
 use Rattle.values.specs.Modes.{channel-if, channel-of, hertz-if, hertz-of, bypass-with, notch-with, bypass-of, notch-of, tag, argument, mode-of, mode-kind}
 use Rattle.values.specs.Refusals.{of-value}
@@ -27,7 +28,7 @@ use Rattle.values.specs.declared.mode.Channel.{Channel}
 use Rattle.values.specs.declared.mode.Hertz.{Hertz}
 use Rattle.values.specs.declared.mode.Mode.{Mode}
 use Rattle.values.specs.declared.mode.Mode.the-variants.{Off, Bypass, Notch}
-use Rattle.values.proofs.Plains.{blank, blank-length, over-blank, laid-next}
+use Rattle.values.proofs.Plains.{blank, blank-length, over-blank}
 
 -- channels and frequencies are their numbers
 
@@ -150,4 +151,4 @@ mode-lawful = record {
 pub mode-laid : (t a : ℕ) → splice (splice blank 0 (bits 2 t)) 2 (bits 16 a) ≡ (bits 2 t ++ bits 16 a) ++ replicate 238 false
 mode-laid t a =
     let e : length (bits 2 t ++ bits 16 a) ≡ 18 = rw (length-append (bits 2 t) (bits 16 a), bits-length 2 t, bits-length 16 a) in
-    laid-next blank (bits 2 t) (bits 16 a) 2 (bits-length 2 t) (omega (arith, blank-length)) ∙ over-blank (bits 2 t ++ bits 16 a) 18 e
+    splice-next blank (bits 2 t) (bits 16 a) 2 (bits-length 2 t) (omega (arith, blank-length)) ∙ over-blank (bits 2 t ++ bits 16 a) 18 e

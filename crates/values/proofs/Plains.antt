@@ -8,7 +8,7 @@ use lib.ListN.{length, drop, replicate}
 use Rattle.std.proofs.shelf.Lists.{drop-replicate, length-replicate}
 use Rattle.fields.specs.Bits.{odd, bits, bits-of}
 use Rattle.fields.specs.Fields.{splice}
-use Rattle.fields.proofs.SpliceLaws.{splice-front, splice-splice}
+use Rattle.fields.proofs.SpliceLaws.{splice-front}
 
 pub zeros : (n : ℕ) → bits-of (replicate n 0) ≡ replicate (8 * n) false
 unfolding bits-of bits odd
@@ -30,9 +30,3 @@ unfolding blank
 over-blank bs w e =
     splice-front (bits-of (replicate 32 0)) bs ∙ ap (λ l. bs ++ drop (length bs) l) (zeros 32)
     ∙ ap (λ l. bs ++ l) (drop-replicate (length bs) 256 false) ∙ ap (λ n. bs ++ replicate (256 - n) false) e
-
--- one more field behind those laid from the start
-pub laid-next : (B p ys : List Bool) (n : ℕ) → length p ≡ n → n ≤ length B → splice (splice B 0 p) n ys ≡ splice B 0 (p ++ ys)
-laid-next B p ys n e h =
-    let at : n ≡ 0 + length p = omega arith in
-    ap (λ z. splice (splice B 0 p) z ys) at ∙ splice-splice B p ys 0 (omega arith)

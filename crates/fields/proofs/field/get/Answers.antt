@@ -6,6 +6,7 @@ use lib.Pow.{pow-mono}
 use lib.ListN.{getD, take, drop}
 use Rattle.std.proofs.shelf.Bits.{mod-below, pow-pos}
 use Rattle.fields.specs.Bits.{num, bits-of}
+use Rattle.fields.proofs.Inverses.{field-lt}
 use Rattle.fields.proofs.Turns.{get-step, get-end, get-room, get-turn}
 use Rattle.fields.proofs.field.get.Needs as need
 use Rattle.fields.proofs.field.get.Needs.{then-left-room, else-left-room}
@@ -38,4 +39,7 @@ loop-left-again c =
     )
 
 pub returns : need.returns
-returns c = get-end (c .loop-left .value) (c .loop-left .left) (drop (c .loop-left .pos) (bits-of (c .args .bytes .now))) (omega arith) ∙ c .loop-left .inv .3
+returns c =
+    let B = bits-of (c .args .bytes .now) in
+    let e = get-end (c .loop-left .value) (c .loop-left .left) (drop (c .loop-left .pos) B) (omega arith) ∙ c .loop-left .inv .3 in
+    record { value = e; small = rw e (field-lt B (c .args .at) (c .args .width)) }

@@ -11,7 +11,7 @@ pub loop-i-holds : need.loop-i-holds
 loop-i-holds c = get-none 24 (drop (c .args .at) (bits-of (c .args .bytes .now)))
 
 pub loop-i-again : need.loop-i-again
-loop-i-again c = get-next 24 (c .loop-i .row) (bits-of (c .args .bytes .now)) (c .args .at) (c .loop-i .i) (c .get .result) (omega arith) (c .loop-i .inv) (c .get .ensures)
+loop-i-again c = get-next 24 (c .loop-i .row) (bits-of (c .args .bytes .now)) (c .args .at) (c .loop-i .i) (c .get .result) (omega arith) (c .loop-i .inv) (c .get .ensures .value)
 
 pub returns : need.returns
 returns c =

@@ -14,7 +14,7 @@ loop-done-again c =
     let kl : c .loop-done .done + c .if-left-lt32 .k ≤ c .args .width = elim (c .if-left-lt32 .came) [ then-left-lt32 w ↦ omega (arith, w .k-is) | else-left-lt32 w ↦ omega (arith, w .k-is) ] in (
       kl,
       copy-step (bits-of (c .loop-done .place)) (bits-of (c .put .last .place)) (bits-of (c .args .from .now)) (c .args .at) (c .args .start) (c .args .width) (c .loop-done .done) k (c .get-x .result)
-          kl (omega (arith, bits-of-length (c .loop-done .place))) (omega (arith, bits-of-length (c .args .from .now))) (c .get-x .ensures) (c .put .ensures)
+          kl (omega (arith, bits-of-length (c .loop-done .place))) (omega (arith, bits-of-length (c .args .from .now))) (c .get-x .ensures .value) (c .put .ensures)
           ∙ c .loop-done .inv .1,
     )
 

@@ -10,4 +10,4 @@ use Rattle.values.proofs.coefficient.kind.CoefficientKind.read.Needs as need
 pub returns : need.returns
 unfolding taken
 returns c =
-    ap Ok (same-coefficient _ _ (toZ-ofZ w32 (c .cast-signed .result) (record { sfits = c .cast-signed .ok }) ∙ c .cast-signed .ensures ∙ ap (toZ w32) (c .get .ensures)))
+    ap Ok (same-coefficient _ _ (toZ-ofZ w32 (c .cast-signed .result) (record { sfits = c .cast-signed .ok }) ∙ c .cast-signed .ensures ∙ ap (toZ w32) (c .get .ensures .value)))

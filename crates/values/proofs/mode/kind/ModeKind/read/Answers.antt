@@ -11,4 +11,4 @@ unfolding taken
 returns c =
     let B = bits-of (c .args .bits .now .bytes) in
     c .mode .ensures
-    ∙ ap₂ mode-of (c .get-tag .ensures ∙ ap num (sym (take-take 2 18 B (omega arith)))) (c .get-argument .ensures ∙ ap num (sym (drop-take 2 16 B)))
+    ∙ ap₂ mode-of (c .get-tag .ensures .value ∙ ap num (sym (take-take 2 18 B (omega arith)))) (c .get-argument .ensures .value ∙ ap num (sym (drop-take 2 16 B)))

@@ -1,0 +1,4 @@
+pub mod Layouts
+pub mod Messages
+pub mod Reading
+pub mod Writing

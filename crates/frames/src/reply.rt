@@ -1,0 +1,102 @@
+// Replies as frames: kind 3.
+ghost use mathlib.Core.Path.{_≡_};
+ghost use Prim.Native.Nat.{_≤_, _*_};
+ghost use lib.ListN.{length};
+ghost use Rattle.fields.specs.Bits.{bits-of};
+ghost use Rattle.frames.specs.Layouts.{bytes-for};
+ghost use Rattle.frames.specs.Messages.{reply-bits};
+ghost use Rattle.frames.specs.Reading.{reply-read, copy-read, label-read, ends-read};
+use clocks::matrix::area;
+use crate::message::Reply;
+use crate::parts::bytes_for;
+use crate::parts::filled;
+use crate::parts::matrix;
+use crate::parts::opened;
+use crate::parts::value;
+use fields::field::get;
+use values::fault::Fault;
+use values::kind::ValueKind;
+
+// The label of a reply's copy: none where it is unwritten, and then writer and write number must be 0.
+fn label(bytes: &[u8]) -> Result<Option<(u8, u32)>, Fault>
+    requires { ⌜ 74 ≤ 8 * length (now bytes) ⌝ }
+    ensures { λ r. ⌜ r ≡ label-read (bits-of (now (bytes .entry))) ⌝ }
+{
+    let writer = get(bytes, 47, 3);
+    let number = get(bytes, 50, 24);
+    if get(bytes, 46, 1) == 1 {
+        if number < 1 {
+            return Err(Fault::of_frame(50));
+        }
+        return Ok(Some((writer as u8, number)));
+    }
+    if writer != 0 {
+        return Err(Fault::of_frame(47));
+    }
+    if number != 0 {
+        return Err(Fault::of_frame(50));
+    }
+    Ok(None)
+}
+
+// Home and reader. The writer is a site number too, written or not.
+fn ends(bytes: &[u8], n: u8) -> Result<(u8, u8), Fault>
+    requires { ⌜ 74 ≤ 8 * length (now bytes) ⌝ }
+    ensures { λ r. ⌜ r ≡ ends-read (bits-of (now (bytes .entry))) n ⌝ }
+{
+    let home = get(bytes, 8, 3);
+    if home >= n as u32 {
+        return Err(Fault::of_frame(8));
+    }
+    let reader = get(bytes, 11, 3);
+    if reader >= n as u32 {
+        return Err(Fault::of_frame(11));
+    }
+    if get(bytes, 47, 3) >= n as u32 {
+        return Err(Fault::of_frame(47));
+    }
+    Ok((home as u8, reader as u8))
+}
+
+// Label and value of the copy that a reply brings, up to its last bit.
+fn copy<V: ValueKind + Drop>(bytes: &[u8], n: u8) -> Result<(Option<(u8, u32)>, V), Fault>
+    requires { ⌜ n ≤ 8 ⌝ ∗ ⌜ length (now bytes) ≡ bytes-for (reply-bits kind n) ⌝ }
+    ensures { λ r. ⌜ r ≡ copy-read kind (now (bytes .entry)) (bits-of (now (bytes .entry))) n ⌝ }
+{
+    let label = label(bytes)?;
+    let at = 74 + 24 * area(n);
+    let value = value::<V>(bytes, at)?;
+    let end = at + V::width() as usize;
+    if !filled(bytes, end) {
+        return Err(Fault::of_frame(end as u32));
+    }
+    Ok((label, value))
+}
+
+// The reply that bytes are the frame of, or the first field that is refused.
+pub fn read_reply<V: ValueKind + Drop>(bytes: &[u8]) -> Result<Reply<V>, Fault>
+    ensures { λ r. ⌜ r ≡ reply-read kind (now (bytes .entry)) ⌝ }
+{
+    let n = opened(bytes, 3)?;
+    if bytes.len() != bytes_for(74 + 24 * area(n) + V::width() as usize) {
+        return Err(Fault::of_frame(8));
+    }
+    let (home, reader) = ends(bytes, n)?;
+    let register = get(bytes, 14, 8);
+    let number = get(bytes, 22, 24);
+    if number < 1 {
+        return Err(Fault::of_frame(22));
+    }
+    let (label, value) = copy::<V>(bytes, n)?;
+    let matrix = matrix(bytes, 74, n);
+    Ok(Reply {
+        sites: n,
+        home,
+        reader,
+        register: register as u16,
+        number,
+        label,
+        matrix,
+        value,
+    })
+}

@@ -1,16 +1,21 @@
 // The parts that frames share: how they open, the counts, the value and the filling.
 ghost use mathlib.Core.Path.{_≡_};
+ghost use mathlib.Core.List.{_++_};
 ghost use Prim.Native.Nat.{_+_, _-_, _*_, _^_, _<_, _≤_};
-ghost use lib.ListN.{length};
+ghost use lib.ListN.{length, take};
 ghost use Rattle.std.specs.Vec.{made};
 ghost use Rattle.fields.specs.Bits.{bits-of};
-ghost use Rattle.frames.specs.Layouts.{bytes-for};
+ghost use Rattle.fields.specs.Fields.{row as row-of, splice};
+ghost use Rattle.frames.specs.Layouts.{bytes-for, filling};
+ghost use Rattle.frames.specs.Messages.{carried};
 ghost use Rattle.frames.specs.Reading.{opened as opened-by, filled as filled-at, counts-at, value-at};
 use clocks::matrix::Matrix;
 use clocks::matrix::area;
 use clocks::row::Row;
 use fields::field::get;
+use fields::field::put;
 use fields::row::get_row;
+use fields::row::put_row;
 use fields::run::copy;
 use values::fault::Fault;
 use values::kind::Bits;
@@ -85,4 +90,32 @@ pub fn filled(bytes: &[u8], end: usize) -> bool
     ensures { λ r. ⌜ r ≡ filled-at (now (bytes .entry)) end ⌝ }
 {
     get(bytes, end, (8 * bytes.len() - end) as u32) == 0
+}
+
+// Lays a copy behind a frame's fields: the counts of its matrix, its value, and zeros that fill the last byte.
+pub fn put_copy<V: ValueKind>(place: &mut [u8], at: usize, n: u8, matrix: &Matrix, value: &V)
+    requires { ⌜ n ≤ 8 ⌝ ∗ ⌜ at < 2 ^ 31 ⌝ ∗ ⌜ bytes-for (at + 24 * (n * n) + kind .width) ≤ length (now place) ⌝ }
+    ensures laid { λ _. ⌜ bits-of (now (place .exit)) ≡ splice (bits-of (now (place .entry))) at (row-of 24 (carried n (now (matrix .entry) .counts)) ++ (kind .bits (now (value .entry)) ++ filling (at + 24 * (n * n) + kind .width))) ⌝ }
+    ensures whole { λ _. ⌜ length (carried n (now (matrix .entry) .counts)) ≡ n * n ⌝ }
+{
+    let area = area(n);
+    put_row(place, at, &matrix.counts[0..area]);
+    let from = at + 24 * area;
+    let width = V::width() as usize;
+    let bits = value.write();
+    copy(place, from, &bits.bytes, 0, width);
+    let end = from + width;
+    put(place, end, (8 * bytes_for(end) - end) as u32, 0);
+}
+
+// Lays a column behind a frame's fields: its counts, and zeros that fill the last byte.
+pub fn put_column(place: &mut [u8], at: usize, n: u8, column: &Row)
+    requires { ⌜ n ≤ 8 ⌝ ∗ ⌜ at < 2 ^ 31 ⌝ ∗ ⌜ bytes-for (at + 24 * n) ≤ length (now place) ⌝ }
+    ensures laid { λ _. ⌜ bits-of (now (place .exit)) ≡ splice (bits-of (now (place .entry))) at (row-of 24 (take n (now (column .entry) .counts)) ++ filling (at + 24 * n)) ⌝ }
+    ensures whole { λ _. ⌜ length (take n (now (column .entry) .counts)) ≡ n ⌝ }
+{
+    let count = n as usize;
+    put_row(place, at, &column.counts[0..count]);
+    let end = at + 24 * count;
+    put(place, end, (8 * bytes_for(end) - end) as u32, 0);
 }

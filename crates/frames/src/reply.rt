@@ -2,19 +2,24 @@
 ghost use mathlib.Core.Path.{_≡_};
 ghost use Prim.Native.Nat.{_≤_, _*_};
 ghost use lib.ListN.{length};
-ghost use Rattle.fields.specs.Bits.{bits-of};
+ghost use Rattle.fields.specs.Bits.{bits, bits-of};
+ghost use Rattle.fields.specs.Fields.{splice};
 ghost use Rattle.frames.specs.Layouts.{bytes-for};
-ghost use Rattle.frames.specs.Messages.{reply-bits};
+ghost use Rattle.frames.specs.Messages.{reply-bits, reply-frame, written, writer, «write-number» as write-number};
 ghost use Rattle.frames.specs.Reading.{reply-read, copy-read, label-read, ends-read};
+ghost use Rattle.frames.specs.Writing.{write-answer, write-place};
 use clocks::matrix::area;
 use crate::message::Reply;
 use crate::parts::bytes_for;
 use crate::parts::filled;
 use crate::parts::matrix;
 use crate::parts::opened;
+use crate::parts::put_copy;
 use crate::parts::value;
 use fields::field::get;
+use fields::field::put;
 use values::fault::Fault;
+use values::fault::Refusal;
 use values::kind::ValueKind;
 
 // The label of a reply's copy: none where it is unwritten, and then writer and write number must be 0.
@@ -99,4 +104,48 @@ pub fn read_reply<V: ValueKind + Drop>(bytes: &[u8]) -> Result<Reply<V>, Fault>
         matrix,
         value,
     })
+}
+
+// How many bytes the frame of a reply has.
+pub fn reply_size<V: ValueKind>(n: u8) -> usize
+    requires { ⌜ n ≤ 8 ⌝ }
+    ensures { λ r. ⌜ r ≡ bytes-for (reply-bits kind n) ⌝ }
+{
+    bytes_for(74 + 24 * area(n) + V::width() as usize)
+}
+
+// Lays the label of a copy: written, writer and write number, all 0 where there is none.
+fn put_label(place: &mut [u8], label: Option<(u8, u32)>)
+    requires { ⌜ 74 ≤ 8 * length (now place) ⌝ }
+    ensures { λ _. ⌜ bits-of (now (place .exit)) ≡ splice (splice (splice (bits-of (now (place .entry))) 46 (bits 1 (written label))) 47 (bits 3 (writer label))) 50 (bits 24 (write-number label)) ⌝ }
+{
+    let (written, writer, number) = match label {
+        Some((writer, number)) => (1, writer as u32, number),
+        None => (0, 0, 0),
+    };
+    put(place, 46, 1, written);
+    put(place, 47, 3, writer);
+    put(place, 50, 24, number);
+}
+
+// Writes a reply's frame into the caller's place and answers its length. What lies behind the frame stays; a place that is too short is
+// refused with 18 and stays as it was.
+pub fn write_reply<V: ValueKind>(message: &Reply<V>, place: &mut [u8]) -> Result<usize, Fault>
+    requires { ⌜ now message .sites ≤ 8 ⌝ }
+    ensures answer { λ r. ⌜ r ≡ write-answer (bytes-for (reply-bits kind (now (message .entry) .sites))) (length (now (place .entry))) ⌝ }
+    ensures after { λ _. ⌜ now (place .exit) ≡ write-place (bytes-for (reply-bits kind (now (message .entry) .sites))) (reply-frame kind (now (message .entry))) (now (place .entry)) ⌝ }
+{
+    let size = reply_size::<V>(message.sites);
+    if place.len() < size {
+        return Err(Fault::of_site(Refusal::NoRoom));
+    }
+    put(place, 0, 4, 3);
+    put(place, 4, 4, message.sites as u32);
+    put(place, 8, 3, message.home as u32);
+    put(place, 11, 3, message.reader as u32);
+    put(place, 14, 8, message.register as u32);
+    put(place, 22, 24, message.number);
+    put_label(place, message.label);
+    put_copy(place, 74, message.sites, &message.matrix, &message.value);
+    Ok(size)
 }

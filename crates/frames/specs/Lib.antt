@@ -2,3 +2,4 @@ pub mod Layouts
 pub mod Messages
 pub mod Reading
 pub mod Writing
+pub mod Worked

@@ -2,6 +2,7 @@
 // fill the last byte; docs/FRAMES.md has the table.
 pub mod fetch;
 pub mod incoming;
+pub mod laws;
 pub mod message;
 mod parts;
 pub mod reply;

@@ -1,17 +1,20 @@
--- Tests of every count below a number, and lists of which some places are written again: what holds at each place, by
--- induction on how many places there are.
-use Prim.Native.Nat.{ℕ, zero, suc, _+_, _<_, _≤_}
+-- Tests of every count below a number, and lists of which the first places are anew: what holds at each place, by
+-- induction on how many places there are. A loop that writes place after place comes to the same list.
+use Prim.Native.Nat.{ℕ, zero, suc, _+_, _-_, _<_, _≤_}
 use mathlib.Core.Path.{_≡_, refl, ap, sym, subst, _∙_}
-use mathlib.Core.Bool.{Bool, true, false, _&&_}
-use mathlib.Core.List.{List}
+use mathlib.Core.Bool.{Bool, true, false}
+use mathlib.Core.List.{List, map}
 use mathlib.Core.Logic.{⊎-elim, _≢_}
 use native.Mathlib.Numerals.{add-one}
 use native.Mathlib.Omega.{arith}
 use lib.Dec.{leb}
-use lib.ListN.{length, getD, set, replicate}
-use Rattle.std.proofs.shelf.Lists.{length-set, getD-set-same, getD-set-other, set-getD, set-past}
+use lib.ListN.{length, getD, set, drop, replicate}
+use Rattle.std.specs.Iters.{counting}
+use Rattle.std.proofs.shelf.Counted.{length-map-counting, getD-map-counting}
+use native.Mathlib.Nat.{zero-add}
+use Rattle.std.proofs.shelf.Lists.{length-set, getD-set-same, getD-set-other, set-getD, set-past, getD-append-left, getD-append-right, getD-drop, length-append, length-drop, ext-getD}
 use Rattle.std.proofs.shelf.Tests.{false≢true, and-cases, and-parts, and-from, and-left, and-right, cases-lt, cases-eq, leb-true, le-leb}
-use Rattle.clocks.specs.Counts.{limit, every, within, rewritten}
+use Rattle.clocks.specs.Counts.{limit, every, within, anew}
 
 -- a list of zeros
 
@@ -81,7 +84,38 @@ set-within n xs k v b h =
     (λ (d : j ≡ k → ⊥). subst (λ t. t ≤ limit) (sym (getD-set-other xs k j v 0 d)) old)
     (cases-eq j k))
 
--- rewritten
+-- anew
+
+pub anew-at : (n : ℕ) (f : ℕ → ℕ) (xs : List ℕ) (j : ℕ) → j < n → getD (anew n f xs) j 0 ≡ f j
+anew-at n f xs j h =
+    let l = length-map-counting f 0 n in
+    getD-append-left (map f (counting 0 n)) (drop n xs) 0 j (omega arith) ∙ getD-map-counting f 0 n j j 0 h (omega arith)
+
+pub anew-behind : (n : ℕ) (f : ℕ → ℕ) (xs : List ℕ) (j : ℕ) → n ≤ j → getD (anew n f xs) j 0 ≡ getD xs j 0
+anew-behind n f xs j h =
+    let e : n + (j - n) ≡ j = omega arith in
+    getD-append-right (map f (counting 0 n)) (drop n xs) n j 0 (length-map-counting f 0 n) h
+    ∙ getD-drop n xs (j - n) 0 ∙ ap (λ t. getD xs t 0) e
+
+pub anew-length : (n : ℕ) (f : ℕ → ℕ) (xs : List ℕ) → n ≤ length xs → length (anew n f xs) ≡ length xs
+anew-length n f xs h =
+    omega (arith, length-append (map f (counting 0 n)) (drop n xs), length-map-counting f 0 n, length-drop n xs)
+
+-- a list that is so place by place
+pub anew-from : (n : ℕ) (f : ℕ → ℕ) (xs ys : List ℕ) → n ≤ length xs → length ys ≡ length xs → ((j : ℕ) → j < n → getD ys j 0 ≡ f j) → ((j : ℕ) → n ≤ j → getD ys j 0 ≡ getD xs j 0) → ys ≡ anew n f xs
+anew-from n f xs ys h l a b =
+    ext-getD 0 ys (anew n f xs) (l ∙ sym (anew-length n f xs h))
+    (λ j _.
+    ⊎-elim
+    (λ (k : j < n). a j k ∙ sym (anew-at n f xs j k))
+    (λ (k : n ≤ j). b j k ∙ sym (anew-behind n f xs j k))
+    (cases-lt j n))
+
+-- rewritten: what a loop has done that writes f 0, f 1, .. at the places from a on, after n of them
+
+unfoldable pub rewritten : ℕ → ℕ → (ℕ → ℕ) → List ℕ → List ℕ
+rewritten a zero f xs = xs
+rewritten a (suc n) f xs = set (rewritten a n f xs) (a + n) (f n)
 
 pub rewritten-none : (a : ℕ) (f : ℕ → ℕ) (xs : List ℕ) → rewritten a 0 f xs ≡ xs
 unfolding rewritten
@@ -133,3 +167,10 @@ pub rewritten-kept : (a n : ℕ) (f : ℕ → ℕ) (xs ys : List ℕ) → ys ≡
 rewritten-kept a n f xs ys e q =
     let v : getD ys (a + n) 0 ≡ f n = ap (λ t. getD t (a + n) 0) e ∙ rewritten-next a n f xs ∙ q in
     sym (set-getD ys (a + n) 0) ∙ rewritten-step a n f xs ys (a + n) (getD ys (a + n) 0) e refl v
+
+-- all of the first n places are written
+pub rewritten-all : (n : ℕ) (f : ℕ → ℕ) (xs : List ℕ) → n ≤ length xs → rewritten 0 n f xs ≡ anew n f xs
+rewritten-all n f xs h =
+    anew-from n f xs (rewritten 0 n f xs) h (rewritten-length 0 n f xs)
+    (λ j k. ap (λ t. getD (rewritten 0 n f xs) t 0) (sym (zero-add j)) ∙ rewritten-at 0 n f xs j k (omega arith))
+    (λ j k. rewritten-behind 0 n f xs j (omega arith))

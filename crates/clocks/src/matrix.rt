@@ -1,5 +1,5 @@
 // A matrix clock: how many writes of each site each site was told of.
-ghost use Prim.Native.Nat.{ℕ, _+_, _*_, _<_, _≤_};
+ghost use Prim.Native.Nat.{_+_, _*_, _<_, _≤_};
 ghost use Rattle.clocks.specs.Counts.{within};
 ghost use Rattle.clocks.specs.Matrices.{entry, raised, room, merged, column};
 ghost use lib.ListN.{replicate};

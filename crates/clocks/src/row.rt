@@ -1,5 +1,5 @@
 // A row of counts, one for each site: how many writes of each site are known somewhere.
-ghost use Prim.Native.Nat.{ℕ, _+_, _<_, _≤_};
+ghost use Prim.Native.Nat.{_+_, _<_, _≤_};
 ghost use Rattle.clocks.specs.Counts.{limit, within};
 ghost use Rattle.clocks.specs.Rows.{raised-at, less-one, nowhere-below};
 ghost use lib.ListN.{getD, replicate};

@@ -45,8 +45,8 @@ holds-laid p rest at (f ∷ fs) e h =
     let b = bits w x in
     let flat : p ++ ((b ++ laid fs) ++ rest) ≡ p ++ (b ++ (laid fs ++ rest)) = ap (λ l. p ++ l) (append-assoc b (laid fs) rest) in
     let here : field (p ++ ((b ++ laid fs) ++ rest)) at w ≡ x =
-        ap (λ l. field l at w) flat ∙ ap (λ l. num (take w l)) (drop-at p (b ++ (laid fs ++ rest)) at e)
-        ∙ ap num (take-at b (laid fs ++ rest) w (bits-length w x)) ∙ num-bits w x ∙ mod-eq-of-lt (h .0) in
+    ap (λ l. field l at w) flat ∙ ap (λ l. num (take w l)) (drop-at p (b ++ (laid fs ++ rest)) at e)
+    ∙ ap num (take-at b (laid fs ++ rest) w (bits-length w x)) ∙ num-bits w x ∙ mod-eq-of-lt (h .0) in
     let l : length (p ++ bits w x) ≡ at + w = rw (length-append p b, bits-length w x, e) in
     let join : (p ++ b) ++ (laid fs ++ rest) ≡ p ++ ((b ++ laid fs) ++ rest) = append-assoc p b (laid fs ++ rest) ∙ sym flat in
     let P : List Bool → Type 0 = λ B. Holds B (at + w) fs in
@@ -122,8 +122,8 @@ module _ (fs : Fields) (cs : List ℕ) (vs : List Bool) where
         counts = ap (λ l. numbers 24 (length cs) (drop (span fs) l)) b ∙ ap (numbers 24 (length cs)) from-counts ∙ numbers-row 24 cs (vs ++ filling end) small;
         value = ap (λ l. run l (span fs + 24 * length cs) (length vs)) b ∙ ap (take (length vs)) from-value ∙ take-at vs (filling end) (length vs) refl;
         filled =
-          ap₂ (λ l k. field l end (8 * k - end)) b n ∙ ap (λ l. num (take (8 * bytes-for end - end) l)) from-filling
-          ∙ ap num (take-all (8 * bytes-for end - end) (filling end) (omega (arith, filling-length end))) ∙ filling-zero end;
+            ap₂ (λ l k. field l end (8 * k - end)) b n ∙ ap (λ l. num (take (8 * bytes-for end - end) l)) from-filling
+            ∙ ap num (take-all (8 * bytes-for end - end) (filling end) (omega (arith, filling-length end))) ∙ filling-zero end;
       }
 
 pub frames-carry : Frames-carry
@@ -150,12 +150,12 @@ only-frames-carry bytes fs n w small len held zero =
     let nz : num rest ≡ 0 = ap num (sym (take-all z rest (omega arith))) ∙ zero in
     let fill : rest ≡ filling (s + 24 * n + w) = sym (bits-num rest) ∙ ap₂ bits (lr ∙ ap (λ k. 8 * k - (s + 24 * n + w)) len) nz ∙ bits-zero (8 * bytes-for (s + 24 * n + w) - (s + 24 * n + w)) in
     let tail : drop s X ≡ row 24 cs ++ (vs ++ filling (s + 24 * n + w)) =
-        sym (take-append-drop (24 * n) (drop s X)) ∙ ap₂ (λ a b. a ++ b) (sym mid)
-        (drop-drop (24 * n) s X ∙ sym (take-append-drop w (drop (s + 24 * n) X)) ∙ ap (λ b. vs ++ b) (drop-drop w (s + 24 * n) X ∙ fill)) in
+    sym (take-append-drop (24 * n) (drop s X)) ∙ ap₂ (λ a b. a ++ b) (sym mid)
+    (drop-drop (24 * n) s X ∙ sym (take-append-drop w (drop (s + 24 * n) X)) ∙ ap (λ b. vs ++ b) (drop-drop w (s + 24 * n) X ∙ fill)) in
     let all : X ≡ body fs cs vs ++ filling (length (body fs cs vs)) =
-        sym (take-append-drop s X) ∙ ap₂ (λ a b. a ++ b) head tail
-        ∙ sym (append-assoc (laid fs) (row 24 cs ++ vs) (filling (s + 24 * n + w)) ∙ ap (λ l. laid fs ++ l) (append-assoc (row 24 cs) vs (filling (s + 24 * n + w))))
-        ∙ ap (λ k. body fs cs vs ++ filling k) (sym lb) in
+    sym (take-append-drop s X) ∙ ap₂ (λ a b. a ++ b) head tail
+    ∙ sym (append-assoc (laid fs) (row 24 cs ++ vs) (filling (s + 24 * n + w)) ∙ ap (λ l. laid fs ++ l) (append-assoc (row 24 cs) vs (filling (s + 24 * n + w))))
+    ∙ ap (λ k. body fs cs vs ++ filling k) (sym lb) in
     sym (bytes-back bytes small) ∙ ap₂ bytes-by (len ∙ ap bytes-for (sym lb)) all
 
 -- Writing: fields laid into a place one after the other.
@@ -170,8 +170,8 @@ field-laid B P Q fs w x at e s h q =
 
 -- the place once all is laid
 pub all-laid : (ps qs : List ℕ) (P : List Bool) (fs : Fields) (cs : List ℕ) (vs : List Bool) (at end : ℕ) → All (λ b. b < 256) ps → All (λ b. b < 256) qs → length ps ≡ length qs
-  → end ≡ span fs + 24 * length cs + length vs → bytes-for end ≤ length qs → at ≡ span fs → P ≡ splice (bits-of qs) 0 (laid fs)
-  → bits-of ps ≡ splice P at (row 24 cs ++ (vs ++ filling end)) → ps ≡ framed fs cs vs ++ drop (length (framed fs cs vs)) qs
+    → end ≡ span fs + 24 * length cs + length vs → bytes-for end ≤ length qs → at ≡ span fs → P ≡ splice (bits-of qs) 0 (laid fs)
+    → bits-of ps ≡ splice P at (row 24 cs ++ (vs ++ filling end)) → ps ≡ framed fs cs vs ++ drop (length (framed fs cs vs)) qs
 unfolding framed body
 all-laid ps qs P fs cs vs at end sp sq l e room a ep eq =
     let lb = body-length fs cs vs in
@@ -180,18 +180,18 @@ all-laid ps qs P fs cs vs at end sp sq l e room a ep eq =
     let ws = body fs cs vs ++ filling (length (body fs cs vs)) in
     let lw : length (body fs cs vs ++ filling (length (body fs cs vs))) ≡ 8 * bytes-for (length (body fs cs vs)) = whole-length (body fs cs vs) in
     let joined : laid fs ++ (row 24 cs ++ (vs ++ filling end)) ≡ ws =
-        sym (append-assoc (laid fs) (row 24 cs ++ vs) (filling end) ∙ ap (λ l. laid fs ++ l) (append-assoc (row 24 cs) vs (filling end))) ∙ ap (λ k. body fs cs vs ++ filling k) (sym le) in
+    sym (append-assoc (laid fs) (row 24 cs ++ vs) (filling end) ∙ ap (λ l. laid fs ++ l) (append-assoc (row 24 cs) vs (filling end))) ∙ ap (λ k. body fs cs vs ++ filling k) (sym le) in
     let laid-all : bits-of ps ≡ ws ++ drop (8 * n) (bits-of qs) =
-        eq ∙ ap (λ p. splice p at (row 24 cs ++ (vs ++ filling end))) ep
-        ∙ splice-next (bits-of qs) (laid fs) (row 24 cs ++ (vs ++ filling end)) at (laid-length fs ∙ sym a) (omega (arith, bits-of-length qs))
-        ∙ ap (splice (bits-of qs) 0) joined ∙ splice-front (bits-of qs) ws ∙ ap (λ k. ws ++ drop k (bits-of qs)) lw in
+    eq ∙ ap (λ p. splice p at (row 24 cs ++ (vs ++ filling end))) ep
+    ∙ splice-next (bits-of qs) (laid fs) (row 24 cs ++ (vs ++ filling end)) at (laid-length fs ∙ sym a) (omega (arith, bits-of-length qs))
+    ∙ ap (splice (bits-of qs) 0) joined ∙ splice-front (bits-of qs) ws ∙ ap (λ k. ws ++ drop k (bits-of qs)) lw in
     bytes-from ps qs ws n sp sq l (rw le room) lw laid-all ∙ ap (λ k. bytes-by n ws ++ drop k qs) (sym (bytes-length n ws))
 
 -- a matrix, a value and the filling, laid one after the other
 pub copy-laid : {V : Type 0} (k : Kind V) → Lawful k → (v : V) (B P Q R plain-bits : List Bool) (counts : List ℕ) (at n area w size : ℕ) → area ≡ n * n → w ≡ k .width → area ≤ length counts
-  → size ≡ bytes-for (at + 24 * area + w) → 8 * size ≤ length B
-  → P ≡ splice B at (row 24 (take (area - 0) counts)) → plain-bits ≡ plain k v → Q ≡ splice P (at + 24 * area) (run plain-bits 0 w) → R ≡ splice Q (at + 24 * area + w) (bits (8 * size - (at + 24 * area + w)) 0)
-  → R ≡ splice B at (row 24 (take (n * n) counts) ++ (k .bits v ++ filling (at + 24 * (n * n) + k .width)))
+    → size ≡ bytes-for (at + 24 * area + w) → 8 * size ≤ length B
+    → P ≡ splice B at (row 24 (take (area - 0) counts)) → plain-bits ≡ plain k v → Q ≡ splice P (at + 24 * area) (run plain-bits 0 w) → R ≡ splice Q (at + 24 * area + w) (bits (8 * size - (at + 24 * area + w)) 0)
+    → R ≡ splice B at (row 24 (take (n * n) counts) ++ (k .bits v ++ filling (at + 24 * (n * n) + k .width)))
 unfolding plain filling
 copy-laid k law v B P Q R plain-bits counts at n area w size ea ew many es room p pl q r =
     let X = row 24 (take area counts) in
@@ -207,13 +207,13 @@ copy-laid k law v B P Q R plain-bits counts at n area w size ea ew many es room 
     let p' : P ≡ splice B at X = p ∙ ap (λ m. splice B at (row 24 (take m counts))) a0 in
     let q' : Q ≡ splice B at (X ++ k .bits v) = q ∙ ap₂ (λ l y. splice l (at + 24 * area) y) p' value ∙ ap (λ m. splice (splice B at X) m (k .bits v)) a1 ∙ splice-splice B X (k .bits v) at (omega arith) in
     let r' : R ≡ splice B at ((X ++ k .bits v) ++ filling (at + 24 * area + w)) =
-        r ∙ ap₂ (λ l y. splice l (at + 24 * area + w) y) q' z ∙ ap (λ m. splice (splice B at (X ++ k .bits v)) m (filling (at + 24 * area + w))) a2 ∙ splice-splice B (X ++ k .bits v) (filling (at + 24 * area + w)) at (omega arith) in
+    r ∙ ap₂ (λ l y. splice l (at + 24 * area + w) y) q' z ∙ ap (λ m. splice (splice B at (X ++ k .bits v)) m (filling (at + 24 * area + w))) a2 ∙ splice-splice B (X ++ k .bits v) (filling (at + 24 * area + w)) at (omega arith) in
     r' ∙ ap (splice B at) (append-assoc X (k .bits v) (filling (at + 24 * area + w)))
     ∙ ap₂ (λ m u. splice B at (row 24 (take m counts) ++ (k .bits v ++ filling (at + 24 * m + u)))) ea ew
 
 -- a column and the filling
 pub column-laid : (B P R : List Bool) (counts : List ℕ) (at n size : ℕ) → n ≤ length counts → size ≡ bytes-for (at + 24 * n) → 8 * size ≤ length B
-  → P ≡ splice B at (row 24 (take (n - 0) counts)) → R ≡ splice P (at + 24 * n) (bits (8 * size - (at + 24 * n)) 0) → R ≡ splice B at (row 24 (take n counts) ++ filling (at + 24 * n))
+    → P ≡ splice B at (row 24 (take (n - 0) counts)) → R ≡ splice P (at + 24 * n) (bits (8 * size - (at + 24 * n)) 0) → R ≡ splice B at (row 24 (take n counts) ++ filling (at + 24 * n))
 unfolding filling
 column-laid B P R counts at n size many es room p r =
     let X = row 24 (take n counts) in
@@ -227,8 +227,8 @@ column-laid B P R counts at n size many es room p r =
 
 -- the place as the rule of writing has it
 pub placed : (ps qs : List ℕ) (P : List Bool) (fs : Fields) (cs : List ℕ) (vs : List Bool) (at end size n : ℕ) → All (λ b. b < 256) ps → All (λ b. b < 256) qs → length ps ≡ length qs
-  → length cs ≡ n → end ≡ span fs + 24 * n + length vs → size ≡ bytes-for end → size ≤ length qs → at ≡ span fs → P ≡ splice (bits-of qs) 0 (laid fs)
-  → bits-of ps ≡ splice P at (row 24 cs ++ (vs ++ filling end)) → ps ≡ write-place size (framed fs cs vs) qs
+    → length cs ≡ n → end ≡ span fs + 24 * n + length vs → size ≡ bytes-for end → size ≤ length qs → at ≡ span fs → P ≡ splice (bits-of qs) 0 (laid fs)
+    → bits-of ps ≡ splice P at (row 24 cs ++ (vs ++ filling end)) → ps ≡ write-place size (framed fs cs vs) qs
 placed ps qs P fs cs vs at end size n sp sq l ln e es room a ep eq =
     let e' : end ≡ span fs + 24 * length cs + length vs = omega arith in
     let r : bytes-for end ≤ length qs = omega arith in

@@ -12,7 +12,7 @@ use Rattle.fields.specs.Fields.{splice, run, numbers}
 use Rattle.values.proofs.Plains.{blank, over-blank}
 
 pub part-read : (row : List ℕ) (bs : List Bool) (size m n : ℕ) → m ≡ n → n ≤ size → row ≡ numbers 24 (length (take (m - 0) (replicate {A = ℕ} size 0))) bs
-  → row ++ postOf 0 (m - 0) (replicate size 0) ≡ numbers 24 n bs ++ replicate (size - n) 0
+    → row ++ postOf 0 (m - 0) (replicate size 0) ≡ numbers 24 n bs ++ replicate (size - n) 0
 part-read row bs size m n e h r =
     let a : m - 0 ≡ n = omega arith in
     let l : length (take (m - 0) (replicate {A = ℕ} size 0)) ≡ n = simp (length-take, length-replicate) (omega arith) in

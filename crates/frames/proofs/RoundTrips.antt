@@ -101,13 +101,12 @@ counts-taken : (size n : ℕ) (B : List Bool) (at : ℕ) → numbers 24 n (drop 
 counts-taken size n B at = sym (take-at (numbers 24 n (drop at B)) (replicate (size - n) 0) n (numbers-length 24 n (drop at B)))
 
 module _ {V : Type 0} (k : Kind V) (law : Lawful k) where
-
   -- updates
 
   update-is : (bytes : List ℕ) (n s r x : ℕ) (cs : List ℕ) (v : V) → opened 1 bytes ≡ Ok n → length bytes ≡ bytes-for (update-bits k n) → field (bits-of bytes) 8 3 ≡ s → s < n → field (bits-of bytes) 11 8 ≡ r
-    → field (bits-of bytes) 19 24 ≡ x → 1 ≤ x → k .read (run (bits-of bytes) (43 + 24 * (n * n)) (k .width)) ≡ Ok v → field (bits-of bytes) (update-bits k n) (8 * length bytes - update-bits k n) ≡ 0
-    → numbers 24 (n * n) (drop 43 (bits-of bytes)) ≡ cs
-    → update-read k bytes ≡ Ok (record { sites = n; sender = s; register = r; number = x; matrix = record { counts = cs ++ replicate (64 - n * n) 0 }; value = v })
+      → field (bits-of bytes) 19 24 ≡ x → 1 ≤ x → k .read (run (bits-of bytes) (43 + 24 * (n * n)) (k .width)) ≡ Ok v → field (bits-of bytes) (update-bits k n) (8 * length bytes - update-bits k n) ≡ 0
+      → numbers 24 (n * n) (drop 43 (bits-of bytes)) ≡ cs
+      → update-read k bytes ≡ Ok (record { sites = n; sender = s; register = r; number = x; matrix = record { counts = cs ++ replicate (64 - n * n) 0 }; value = v })
   update-is bytes n s r x cs v o l es s< er ex x1 ev ef ec =
       let B = bits-of bytes in
       let t1 : eqb (length bytes) (bytes-for (update-bits k n)) ≡ true = eq-eqb _ _ l in
@@ -132,7 +131,7 @@ module _ {V : Type 0} (k : Kind V) (law : Lawful k) where
       let end : 43 + 24 * length cs + length vs ≡ update-bits k n = ap₂ (λ x y. 43 + 24 * x + y) lc lv in
       let size : length (update-frame k m) ≡ bytes-for (update-bits k (m .sites)) = c .whole ∙ ap bytes-for end in
       let read : k .read (run B (43 + 24 * (n * n)) (k .width)) ≡ Ok (m .value) =
-          ap (k .read) (ap₂ (λ x y. run B (43 + 24 * x) y) (sym lc) (sym lv) ∙ c .value) ∙ law .back (m .value) in
+      ap (k .read) (ap₂ (λ x y. run B (43 + 24 * x) y) (sym lc) (sym lv) ∙ c .value) ∙ law .back (m .value) in
       update-is bytes n (m .sender) (m .register) (m .number) cs (m .value)
       (opened-is 1 n bytes (omega (arith, size)) (h .0) (h .1 .0) (good .sites .0) (good .sites .1)) size
       (h .1 .1 .0) (good .sender) (h .1 .1 .1 .0) (h .1 .1 .1 .1 .0) (good .number .0) read
@@ -157,10 +156,10 @@ module _ {V : Type 0} (k : Kind V) (law : Lawful k) where
       let x : Update V = update-of B n v in
       let same : x ≡ m = cc in
       let vbits : run B (43 + 24 * (n * n)) (k .width) ≡ k .bits v =
-          law .only (run B (43 + 24 * (n * n)) (k .width)) v (simp (length-take, length-drop) (omega arith)) (from-passed (43 + 24 * (n * n)) _ v (d .1)) in
+      law .only (run B (43 + 24 * (n * n)) (k .width)) v (simp (length-take, length-drop) (omega arith)) (from-passed (43 + 24 * (n * n)) _ v (d .1)) in
       let bytes-are : bytes ≡ update-frame k x =
-          only-frames-carry bytes (update-fields x) (n * n) (k .width) small size (op .kind-is, (op .count-is, (refl, (refl, (refl, tt))))) (eqb-true _ _ (f .0))
-          ∙ ap₂ (framed (update-fields x)) (counts-taken 64 (n * n) B 43) vbits in
+      only-frames-carry bytes (update-fields x) (n * n) (k .width) small size (op .kind-is, (op .count-is, (refl, (refl, (refl, tt))))) (eqb-true _ _ (f .0))
+      ∙ ap₂ (framed (update-fields x)) (counts-taken 64 (n * n) B 43) vbits in
       let good : Update-in-range x = record {
         sites = (op .low, op .high);
         sender = ltb-true _ _ (b .0);
@@ -185,9 +184,9 @@ module _ {V : Type 0} (k : Kind V) (law : Lawful k) where
       rw (t1, t2, b, c)
 
   reply-is-read : (bytes : List ℕ) (n h d r x : ℕ) (label : Option (ℕ × ℕ)) (cs : List ℕ) (v : V) → opened 3 bytes ≡ Ok n → length bytes ≡ bytes-for (reply-bits k n) → field (bits-of bytes) 8 3 ≡ h → h < n → field (bits-of bytes) 11 3 ≡ d → d < n
-    → field (bits-of bytes) 47 3 < n → field (bits-of bytes) 14 8 ≡ r → field (bits-of bytes) 22 24 ≡ x → 1 ≤ x → label-read (bits-of bytes) ≡ Ok label
-    → k .read (run (bits-of bytes) (74 + 24 * (n * n)) (k .width)) ≡ Ok v → field (bits-of bytes) (reply-bits k n) (8 * length bytes - reply-bits k n) ≡ 0 → numbers 24 (n * n) (drop 74 (bits-of bytes)) ≡ cs
-    → reply-read k bytes ≡ Ok (record { sites = n; home = h; reader = d; register = r; number = x; label = label; matrix = record { counts = cs ++ replicate (64 - n * n) 0 }; value = v })
+      → field (bits-of bytes) 47 3 < n → field (bits-of bytes) 14 8 ≡ r → field (bits-of bytes) 22 24 ≡ x → 1 ≤ x → label-read (bits-of bytes) ≡ Ok label
+      → k .read (run (bits-of bytes) (74 + 24 * (n * n)) (k .width)) ≡ Ok v → field (bits-of bytes) (reply-bits k n) (8 * length bytes - reply-bits k n) ≡ 0 → numbers 24 (n * n) (drop 74 (bits-of bytes)) ≡ cs
+      → reply-read k bytes ≡ Ok (record { sites = n; home = h; reader = d; register = r; number = x; label = label; matrix = record { counts = cs ++ replicate (64 - n * n) 0 }; value = v })
   reply-is-read bytes n h d r x label cs v o l eh h< ed d< w< er ex x1 el ev ef ec =
       let B = bits-of bytes in
       let t1 : eqb (length bytes) (bytes-for (reply-bits k n)) ≡ true = eq-eqb _ _ l in
@@ -221,7 +220,7 @@ module _ {V : Type 0} (k : Kind V) (law : Lawful k) where
       let end : 74 + 24 * length cs + length vs ≡ reply-bits k n = ap₂ (λ x y. 74 + 24 * x + y) lc lv in
       let size : length (reply-frame k m) ≡ bytes-for (reply-bits k (m .sites)) = c .whole ∙ ap bytes-for end in
       let read : k .read (run B (74 + 24 * (n * n)) (k .width)) ≡ Ok (m .value) =
-          ap (k .read) (ap₂ (λ x y. run B (74 + 24 * x) y) (sym lc) (sym lv) ∙ c .value) ∙ law .back (m .value) in
+      ap (k .read) (ap₂ (λ x y. run B (74 + 24 * x) y) (sym lc) (sym lv) ∙ c .value) ∙ law .back (m .value) in
       let w : field (bits-of (reply-frame k m)) 47 3 ≡ writer (m .label) = h .1 .1 .1 .1 .1 .1 .1 .0 in
       reply-is-read bytes n (m .home) (m .reader) (m .register) (m .number) (m .label) cs (m .value)
       (opened-is 3 n bytes (omega (arith, size)) (h .0) (h .1 .0) (good .sites .0) (good .sites .1)) size
@@ -240,8 +239,8 @@ module _ {V : Type 0} (k : Kind V) (law : Lawful k) where
   label-only B n label w< e = go (eqb (field B 46 1) 1) refl e
     where
       go : (b : Bool) → eqb (field B 46 1) 1 ≡ b
-        → cond {A = Result (Option (ℕ × ℕ)) Fault} b (check (leb 1 (field B 50 24)) 50 (Ok (Some (field B 47 3, field B 50 24)))) (check (eqb (field B 47 3) 0) 47 (check (eqb (field B 50 24) 0) 50 (Ok None))) ≡ Ok label
-        → Labelled B n label
+          → cond {A = Result (Option (ℕ × ℕ)) Fault} b (check (leb 1 (field B 50 24)) 50 (Ok (Some (field B 47 3, field B 50 24)))) (check (eqb (field B 47 3) 0) 47 (check (eqb (field B 50 24) 0) 50 (Ok None))) ≡ Ok label
+          → Labelled B n label
       go true q f =
           let a = check-passed (leb 1 (field B 50 24)) 50 (Ok (Some (field B 47 3, field B 50 24))) label f in
           let x : Option (ℕ × ℕ) = Some (field B 47 3, field B 50 24) in
@@ -283,11 +282,11 @@ module _ {V : Type 0} (k : Kind V) (law : Lawful k) where
       let last : reply-of B n ends copy ≡ m = cc in
       let same : x ≡ m = ap₂ (reply-of B n) p2 p1 ∙ last in
       let vbits : run B (74 + 24 * (n * n)) (k .width) ≡ k .bits v =
-          law .only (run B (74 + 24 * (n * n)) (k .width)) v (simp (length-take, length-drop) (omega arith)) (from-passed (74 + 24 * (n * n)) _ v (d .1)) in
+      law .only (run B (74 + 24 * (n * n)) (k .width)) v (simp (length-take, length-drop) (omega arith)) (from-passed (74 + 24 * (n * n)) _ v (d .1)) in
       let bytes-are : bytes ≡ reply-frame k x =
-          only-frames-carry bytes (reply-fields x) (n * n) (k .width) small size
-          (op .kind-is, (op .count-is, (refl, (refl, (refl, (refl, (lab .written-is, (lab .writer-is, (lab .number-is, tt))))))))) (eqb-true _ _ (f .0))
-          ∙ ap₂ (framed (reply-fields x)) (counts-taken 64 (n * n) B 74) vbits in
+      only-frames-carry bytes (reply-fields x) (n * n) (k .width) small size
+      (op .kind-is, (op .count-is, (refl, (refl, (refl, (refl, (lab .written-is, (lab .writer-is, (lab .number-is, tt))))))))) (eqb-true _ _ (f .0))
+      ∙ ap₂ (framed (reply-fields x)) (counts-taken 64 (n * n) B 74) vbits in
       let good : Reply-in-range x = record {
         sites = (op .low, op .high);
         home = ltb-true _ _ (e1 .0);
@@ -303,8 +302,8 @@ module _ {V : Type 0} (k : Kind V) (law : Lawful k) where
 -- fetches
 
 fetch-is : (bytes : List ℕ) (n s h r x : ℕ) (cs : List ℕ) → opened 2 bytes ≡ Ok n → length bytes ≡ bytes-for (fetch-bits n) → field (bits-of bytes) 8 3 ≡ s → s < n → field (bits-of bytes) 11 3 ≡ h → h < n → field (bits-of bytes) 14 8 ≡ r
-  → field (bits-of bytes) 22 24 ≡ x → 1 ≤ x → field (bits-of bytes) (fetch-bits n) (8 * length bytes - fetch-bits n) ≡ 0 → numbers 24 n (drop 46 (bits-of bytes)) ≡ cs
-  → fetch-read bytes ≡ Ok (record { sites = n; reader = s; home = h; register = r; number = x; column = record { counts = cs ++ replicate (8 - n) 0 } })
+    → field (bits-of bytes) 22 24 ≡ x → 1 ≤ x → field (bits-of bytes) (fetch-bits n) (8 * length bytes - fetch-bits n) ≡ 0 → numbers 24 n (drop 46 (bits-of bytes)) ≡ cs
+    → fetch-read bytes ≡ Ok (record { sites = n; reader = s; home = h; register = r; number = x; column = record { counts = cs ++ replicate (8 - n) 0 } })
 fetch-is bytes n s h r x cs o l es s< eh h< er ex x1 ef ec =
     let B = bits-of bytes in
     let t1 : eqb (length bytes) (bytes-for (fetch-bits n)) ≡ true = eq-eqb _ _ l in
@@ -351,8 +350,8 @@ fetch-only bytes m small e =
     let same : x ≡ m = cc in
     let z : 46 + 24 * o .0 + 0 ≡ fetch-bits (o .0) = omega arith in
     let bytes-are : bytes ≡ fetch-frame x =
-        only-frames-carry bytes (fetch-fields x) n 0 small (size ∙ ap bytes-for (sym z)) (op .kind-is, (op .count-is, (refl, (refl, (refl, (refl, tt)))))) (ap (λ i. field B i (8 * length bytes - i)) z ∙ eqb-true _ _ (f .0))
-        ∙ ap (λ l. framed (fetch-fields x) l []) (counts-taken 8 n B 46) in
+    only-frames-carry bytes (fetch-fields x) n 0 small (size ∙ ap bytes-for (sym z)) (op .kind-is, (op .count-is, (refl, (refl, (refl, (refl, tt)))))) (ap (λ i. field B i (8 * length bytes - i)) z ∙ eqb-true _ _ (f .0))
+    ∙ ap (λ l. framed (fetch-fields x) l []) (counts-taken 8 n B 46) in
     let good : Fetch-in-range x = record {
       sites = (op .low, op .high);
       reader = ltb-true _ _ (b .0);

@@ -67,5 +67,5 @@ Frames-carry = (fs : Fields) (cs : List ℕ) (vs : List Bool) → Fit fs → All
 -- bytes that carry fields, counts and a value, and zeros behind, are their frame
 abbrev pub Only-frames-carry : Type 0
 Only-frames-carry = (bytes : List ℕ) (fs : Fields) (n w : ℕ) → All (λ b. b < 256) bytes → length bytes ≡ bytes-for (span fs + 24 * n + w) → Holds (bits-of bytes) 0 fs
-  → field (bits-of bytes) (span fs + 24 * n + w) (8 * length bytes - (span fs + 24 * n + w)) ≡ 0
-  → bytes ≡ framed fs (numbers 24 n (drop (span fs) (bits-of bytes))) (run (bits-of bytes) (span fs + 24 * n) w)
+    → field (bits-of bytes) (span fs + 24 * n + w) (8 * length bytes - (span fs + 24 * n + w)) ≡ 0
+    → bytes ≡ framed fs (numbers 24 n (drop (span fs) (bits-of bytes))) (run (bits-of bytes) (span fs + 24 * n) w)

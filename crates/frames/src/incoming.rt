@@ -1,6 +1,7 @@
 // What a site receives: an update or a fetch.
 use crate::message::Fetch;
 use crate::message::Update;
+
 pub mod reading;
 
 #[derive(Drop)]

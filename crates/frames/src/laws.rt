@@ -18,15 +18,13 @@ use values::mode::kind::ModeKind;
 pub fn layouts()
     ensures carry { λ _. ⌜ FramesCarry ⌝ }
     ensures only { λ _. ⌜ OnlyFramesCarry ⌝ }
-{
-}
+{}
 
 // At every value kind: a frame that was written reads back as its message, and bytes that are accepted as a message are its frame.
 pub fn inverse<V: ValueKind>()
     ensures back { λ _. ⌜ ReadsBack kind ⌝ }
     ensures only { λ _. ⌜ AcceptsOnlyFrames kind ⌝ }
-{
-}
+{}
 
 // The same at each of the kinds that there are.
 pub fn inverse_at_each_kind()
@@ -44,5 +42,4 @@ pub fn worked()
     ensures fetch { λ _. ⌜ FetchOfTwoSites ⌝ }
     ensures block { λ _. ⌜ BlockOfEightSites ⌝ }
     ensures bytes { λ _. ⌜ MinusTwoTravels ⌝ }
-{
-}
+{}

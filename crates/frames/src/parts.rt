@@ -80,7 +80,11 @@ pub fn value<V: ValueKind + Drop>(bytes: &[u8], at: usize) -> Result<V, Fault>
     copy(&mut bits.bytes, 0, bytes, at, V::width() as usize);
     match V::read(&bits) {
         Ok(value) => Ok(value),
-        Err(fault) => Err(Fault { number: fault.number, layer: fault.layer, place: at as u32 + fault.place }),
+        Err(fault) => Err(Fault {
+            number: fault.number,
+            layer: fault.layer,
+            place: at as u32 + fault.place,
+        }),
     }
 }
 

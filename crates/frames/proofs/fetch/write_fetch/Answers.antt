@@ -47,6 +47,6 @@ returns c =
     record {
       answer = rw t (ap Ok size);
       after =
-        placed p q (bits-of (c .put-6 .last .place)) (fetch-fields m) (take n (m .column .counts)) [] 46 (46 + 24 * n) (bytes-for (fetch-bits n)) n sp sq (search needs)
-        (c .put-column .ensures .whole) (omega arith) refl (omega arith) refl s5 (c .put-column .ensures .laid);
+          placed p q (bits-of (c .put-6 .last .place)) (fetch-fields m) (take n (m .column .counts)) [] 46 (46 + 24 * n) (bytes-for (fetch-bits n)) n sp sq (search needs)
+          (c .put-column .ensures .whole) (omega arith) refl (omega arith) refl s5 (c .put-column .ensures .laid);
     }

@@ -12,7 +12,7 @@ returns c =
     let many : c .args .n ≤ length (c .args .column .now .counts) = search needs in
     record {
       laid =
-        column-laid (bits-of (c .args .place .now)) (bits-of (c .put-row .last .place)) (bits-of (c .put .last .place)) (c .args .column .now .counts) (c .args .at) (c .args .n) (c .bytes-for .result)
-        many (c .bytes-for .ensures) (omega (arith, bits-of-length (c .args .place .now), c .bytes-for .ensures, c .pre)) (c .put-row .ensures) (c .put .ensures);
+          column-laid (bits-of (c .args .place .now)) (bits-of (c .put-row .last .place)) (bits-of (c .put .last .place)) (c .args .column .now .counts) (c .args .at) (c .args .n) (c .bytes-for .result)
+          many (c .bytes-for .ensures) (omega (arith, bits-of-length (c .args .place .now), c .bytes-for .ensures, c .pre)) (c .put-row .ensures) (c .put .ensures);
       whole = simp length-take (omega (arith, many));
     }

@@ -57,6 +57,6 @@ returns g c =
     record {
       answer = rw t (ap Ok size);
       after =
-        placed p q (bits-of (c .put-label .last .place)) (reply-fields m) (carried n (m .matrix .counts)) v 74 (74 + 24 * (n * n) + g .V·ValueKind .kind .width) (bytes-for (reply-bits (g .V·ValueKind .kind) n)) (n * n) sp sq (search needs)
-        (c .put-copy .ensures .whole) (ap (λ z. 74 + 24 * (n * n) + z) (sym lv)) refl (omega arith) refl s8 (c .put-copy .ensures .laid);
+          placed p q (bits-of (c .put-label .last .place)) (reply-fields m) (carried n (m .matrix .counts)) v 74 (74 + 24 * (n * n) + g .V·ValueKind .kind .width) (bytes-for (reply-bits (g .V·ValueKind .kind) n)) (n * n) sp sq (search needs)
+          (c .put-copy .ensures .whole) (ap (λ z. 74 + 24 * (n * n) + z) (sym lv)) refl (omega arith) refl s8 (c .put-copy .ensures .laid);
     }

@@ -47,6 +47,6 @@ returns g c =
     record {
       answer = rw t (ap Ok size);
       after =
-        placed p q (bits-of (c .put-5 .last .place)) (update-fields m) (carried n (m .matrix .counts)) v 43 (43 + 24 * (n * n) + g .V·ValueKind .kind .width) (bytes-for (update-bits (g .V·ValueKind .kind) n)) (n * n) sp sq (search needs)
-        (c .put-copy .ensures .whole) (ap (λ z. 43 + 24 * (n * n) + z) (sym lv)) refl (omega arith) refl s4 (c .put-copy .ensures .laid);
+          placed p q (bits-of (c .put-5 .last .place)) (update-fields m) (carried n (m .matrix .counts)) v 43 (43 + 24 * (n * n) + g .V·ValueKind .kind .width) (bytes-for (update-bits (g .V·ValueKind .kind) n)) (n * n) sp sq (search needs)
+          (c .put-copy .ensures .whole) (ap (λ z. 43 + 24 * (n * n) + z) (sym lv)) refl (omega arith) refl s4 (c .put-copy .ensures .laid);
     }

@@ -3,10 +3,9 @@ use Prim.Native.Nat.{ℕ}
 use mathlib.Core.Path.{_≡_, sym, ap, _∙_}
 use native.Mathlib.Nat.{zero-add}
 use native.Mathlib.Omega.{arith}
-use lib.ListN.{getD, replicate}
-use Rattle.clocks.specs.Counts.{rewritten}
+use lib.ListN.{replicate}
 use Rattle.clocks.specs.Matrices.{entry}
-use Rattle.clocks.proofs.CountLaws.{rewritten-none, rewritten-step}
+use Rattle.clocks.proofs.CountLaws.{rewritten, rewritten-all, rewritten-none, rewritten-step}
 use Rattle.clocks.proofs.matrix.Matrix.column.Needs as need
 
 pub loop-k-holds : need.loop-k-holds
@@ -24,3 +23,4 @@ pub returns : need.returns
 returns c =
     let e : c .loop-k .k ≡ c .args .n = omega arith in
     c .loop-k .inv ∙ ap (λ t. rewritten 0 t (λ k. entry (c .args .n) (c .args .self .now .counts) k (c .args .l)) (replicate 8 0)) e
+    ∙ rewritten-all (c .args .n) (λ k. entry (c .args .n) (c .args .self .now .counts) k (c .args .l)) (replicate 8 0) (omega arith)

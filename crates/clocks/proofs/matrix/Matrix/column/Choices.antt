@@ -1,7 +1,7 @@
 use mathlib.Core.Path.{_≡_}
 use lib.ListN.{replicate}
-use Rattle.clocks.specs.Counts.{rewritten}
 use Rattle.clocks.specs.Matrices.{entry}
+use Rattle.clocks.proofs.CountLaws.{rewritten}
 use Rattle.clocks.proofs.matrix.Matrix.column.Given as given
 
 -- the counts so far are the column's, the others 0

@@ -1,12 +1,11 @@
 -- The count of a turn is still as it was; the larger of the two is written, or stands there already.
-use Prim.Native.Nat.{ℕ, _*_, max}
+use Prim.Native.Nat.{ℕ, _*_, _≤_, max}
 use mathlib.Core.Path.{_≡_, sym, ap, _∙_}
 use native.Mathlib.Nat.{zero-add, max-eq-left, max-eq-right}
 use native.Mathlib.Omega.{arith}
 use borrow.Author.Needs.{needs}
-use lib.ListN.{getD}
-use Rattle.clocks.specs.Counts.{rewritten}
-use Rattle.clocks.proofs.CountLaws.{rewritten-none, rewritten-step, rewritten-kept, rewritten-behind}
+use lib.ListN.{length, getD}
+use Rattle.clocks.proofs.CountLaws.{rewritten, rewritten-all, rewritten-none, rewritten-step, rewritten-kept, rewritten-behind}
 use Rattle.clocks.proofs.matrix.Matrix.merge.Needs as need
 use Rattle.clocks.proofs.matrix.Matrix.merge.Needs.{then-self-j, else-self-j}
 
@@ -34,4 +33,6 @@ returns c =
     let xs = c .args .self .now .counts in
     let ys = c .args .other .now .counts in
     let e : c .loop-j .j ≡ c .args .n * c .args .n = search needs in
+    let s : c .args .n * c .args .n ≤ length xs = search needs in
     c .loop-j .inv ∙ ap (λ t. rewritten 0 t (λ j. max (getD xs j 0) (getD ys j 0)) xs) e
+    ∙ rewritten-all (c .args .n * c .args .n) (λ j. max (getD xs j 0) (getD ys j 0)) xs s

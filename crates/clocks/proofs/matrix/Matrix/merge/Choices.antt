@@ -1,7 +1,7 @@
 use Prim.Native.Nat.{max}
 use mathlib.Core.Path.{_≡_}
 use lib.ListN.{getD}
-use Rattle.clocks.specs.Counts.{rewritten}
+use Rattle.clocks.proofs.CountLaws.{rewritten}
 use Rattle.clocks.proofs.matrix.Matrix.merge.Given as given
 
 -- the counts so far are merged, the others are as they were

@@ -1,12 +1,10 @@
 -- The count of a turn is still as it was, so it has room; it is raised if its column is a holder.
-use Prim.Native.Nat.{_+_, _*_, _<_}
 use mathlib.Core.Path.{_≡_, sym, ap, _∙_}
 use native.Mathlib.Omega.{arith}
-use borrow.Author.Needs.{needs}
-use lib.ListN.{getD, set}
-use Rattle.clocks.specs.Matrices.{entry}
+use Prim.Native.Nat.{_*_, _≤_}
+use lib.ListN.{length, getD}
 use Rattle.clocks.proofs.CountLaws.{rewritten-none}
-use Rattle.clocks.proofs.MatrixLaws.{room-at, raised-to, raised-to-next, raised-to-in, raised-to-out}
+use Rattle.clocks.proofs.MatrixLaws.{area-le, room-at, raised-to, raised-to-next, raised-to-in, raised-to-out, raised-to-all}
 use Rattle.clocks.proofs.matrix.Matrix.raise.Needs as need
 use Rattle.clocks.proofs.matrix.Matrix.raise.Needs.{then-has, else-has}
 
@@ -43,4 +41,6 @@ loop-l-again c =
 pub returns : need.returns
 returns c =
     let e : c .loop-l .l ≡ c .args .n = omega arith in
+    let s : c .args .n * c .args .n ≤ length (c .args .self .now .counts) = omega (arith, area-le (c .args .n) (c .pre .0)) in
     c .loop-l .inv ∙ ap (raised-to (c .args .n) (c .args .self .now .counts) (c .args .i) (c .args .holders)) e
+    ∙ raised-to-all (c .args .n) (c .args .self .now .counts) (c .args .i) (c .args .holders) s (c .pre .1)

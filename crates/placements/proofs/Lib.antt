@@ -1,0 +1,4 @@
+pub mod HeldLaws
+pub mod RingLaws
+pub mod ListedLaws
+pub mod WitnessLaws

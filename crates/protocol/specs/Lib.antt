@@ -1,0 +1,13 @@
+pub mod States
+pub mod Words
+pub mod Opening
+pub mod Writing
+pub mod Reading
+pub mod Fetching
+pub mod Receiving
+pub mod Applying
+pub mod Serving
+pub mod Replying
+pub mod Runs
+pub mod Causality
+pub mod Promises

@@ -25,7 +25,9 @@ use Rattle.values.specs.Refusals.{of-frame}
 use Rattle.values.specs.declared.fault.Fault.{Fault}
 use Rattle.frames.specs.Layouts.{Fields, span, Fit, bytes-for, framed, Carries}
 use Rattle.frames.specs.Messages.{update-fields, update-bits, update-frame, update-clean, Update-in-range, fetch-fields, fetch-bits, fetch-frame, fetch-clean, Fetch-in-range, reply-fields, reply-bits, reply-frame, reply-clean, Reply-in-range, Label, Counts, written, writer, write-number, carried, trimmed}
-use Rattle.frames.specs.Reading.{check, onward, from, site-count, opened, filled, counts-at, value-at, update-of, update-tail, update-rest, update-read, fetch-of, fetch-rest, fetch-read, label-read, ends-read, copy-read, reply-of, reply-rest, reply-read, Reads-back, Accepts-only-frames}
+use Rattle.frames.specs.Reading.{check, onward, from, site-count, opened, filled, counts-at, value-at, update-of, update-tail, update-rest, update-read, fetch-of, fetch-rest, fetch-read, label-read, ends-read, copy-read, reply-of, reply-rest, reply-read, incoming-read, Reads-back, Accepts-only-frames}
+use Rattle.frames.specs.declared.incoming.Incoming.{Incoming}
+use Rattle.frames.specs.declared.incoming.Incoming.the-variants.{OfUpdate, OfFetch}
 use Rattle.frames.specs.declared.message.Update.{Update}
 use Rattle.frames.specs.declared.message.Fetch.{Fetch}
 use Rattle.frames.specs.declared.message.Reply.{Reply}
@@ -368,3 +370,51 @@ reads-back k law = (update-back k law, fetch-back, reply-back k law)
 
 pub accepts-only-frames : {V : Type 0} (k : Kind V) → Lawful k → Accepts-only-frames k
 accepts-only-frames k law = (update-only k law, fetch-only, reply-only k law)
+
+-- Which kind a frame is of: a call that takes another kind refuses it.
+
+kind-of : {A : Type 0} (kind : ℕ) (bytes : List ℕ) (f : ℕ → Result A Fault) (m : A) → onward (opened kind bytes) f ≡ Ok m → (0 < length bytes) × (field (bits-of bytes) 0 4 ≡ kind)
+kind-of kind bytes f m e =
+    let o = onward-passed (opened kind bytes) f m e in
+    let a = check-passed (ltb 0 (length bytes)) 0 _ (o .0) (o .1) in
+    (ltb-true _ _ (a .0), opened-passed kind (o .0) bytes (o .1) .kind-is)
+
+other-kind : {A : Type 0} (kind other : ℕ) (bytes : List ℕ) (f : ℕ → Result A Fault) → field (bits-of bytes) 0 4 ≡ other → (other ≡ kind → ⊥) → (m : A) → onward (opened kind bytes) f ≡ Ok m → ⊥
+other-kind kind other bytes f e ne m o = ne (sym e ∙ kind-of kind bytes f m o .1)
+
+and-false : (a b : Bool) → b ≡ false → (a && b) ≡ false
+and-false true b e = e
+and-false false b e = refl
+
+module _ {V : Type 0} (k : Kind V) (bytes : List ℕ) where
+  -- by the test of the kind
+  by-kind : Bool → Result (Incoming V) Fault
+  by-kind b = cond b (onward (fetch-read bytes) (λ m. Ok (OfFetch m))) (onward (update-read k bytes) (λ m. Ok (OfUpdate m)))
+
+  no-fetch-kind : (other : ℕ) → field (bits-of bytes) 0 4 ≡ other → (other ≡ 2 → ⊥) → incoming-read k bytes ≡ onward (update-read k bytes) (λ m. Ok (OfUpdate m))
+  unfolding by-kind
+  no-fetch-kind other e ne = ap by-kind (and-false (ltb 0 (length bytes)) (eqb (field (bits-of bytes) 0 4) 2) (ne-eqb _ _ (λ z. ne (sym e ∙ z))))
+
+  pub incoming-update : (m : Update V) → update-read k bytes ≡ Ok m → incoming-read k bytes ≡ Ok (OfUpdate m)
+  incoming-update m e =
+      no-fetch-kind 1 (kind-of 1 bytes (update-rest k bytes (bits-of bytes)) m e .1) (λ z. omega arith) ∙ ap (λ r. onward r (λ m. Ok (OfUpdate m))) e
+
+  pub incoming-fetch : (m : Fetch) → fetch-read bytes ≡ Ok m → incoming-read k bytes ≡ Ok (OfFetch m)
+  unfolding by-kind
+  incoming-fetch m e =
+      let q = kind-of 2 bytes (fetch-rest bytes (bits-of bytes)) m e in
+      ap by-kind (both (ltb 0 (length bytes)) (eqb (field (bits-of bytes) 0 4) 2) (lt-ltb _ _ (q .0)) (eq-eqb _ _ (q .1))) ∙ ap (λ r. onward r (λ m. Ok (OfFetch m))) e
+
+  -- a reply is not received
+  pub incoming-reply : (m : Reply V) → reply-read k bytes ≡ Ok m → (x : Incoming V) → incoming-read k bytes ≡ Ok x → ⊥
+  incoming-reply m e x i =
+      let q = kind-of 3 bytes (reply-rest k bytes (bits-of bytes)) m e in
+      let o = onward-passed (update-read k bytes) (λ m. Ok (OfUpdate m)) x (sym (no-fetch-kind 3 (q .1) (λ z. omega arith)) ∙ i) in
+      other-kind 1 3 bytes (update-rest k bytes (bits-of bytes)) (q .1) (λ z. omega arith) (o .0) (o .1)
+
+  -- updates and fetches are not taken for replies
+  pub update-no-reply : (m : Update V) → update-read k bytes ≡ Ok m → (x : Reply V) → reply-read k bytes ≡ Ok x → ⊥
+  update-no-reply m e x i = other-kind 3 1 bytes (reply-rest k bytes (bits-of bytes)) (kind-of 1 bytes (update-rest k bytes (bits-of bytes)) m e .1) (λ z. omega arith) x i
+
+  pub fetch-no-reply : (m : Fetch) → fetch-read bytes ≡ Ok m → (x : Reply V) → reply-read k bytes ≡ Ok x → ⊥
+  fetch-no-reply m e x i = other-kind 3 2 bytes (reply-rest k bytes (bits-of bytes)) (kind-of 2 bytes (fetch-rest bytes (bits-of bytes)) m e .1) (λ z. omega arith) x i

@@ -1,0 +1,133 @@
+-- Lists of items: what a search finds, what taking one out leaves, and what holds of every item seen through a view.
+use mathlib.Core.Path.{_≡_, refl, sym, ap, ap₂, subst, _∙_}
+use mathlib.Core.Bool.{Bool, true, false, cond, not, _&&_}
+use mathlib.Core.List.{List, [], _∷_, _++_, map}
+use mathlib.Core.Logic.{_⊎_, inl, inr}
+use Prim.Native.Nat.{ℕ, zero, suc, _+_, _-_, _<_, _≤_}
+use native.Mathlib.Numerals.{add-one}
+use native.Mathlib.Nat.{add-suc, add-zero}
+use native.Mathlib.Omega.{arith}
+use lib.ListN.{length, take, drop, getD}
+use Rattle.std.specs.declared.option.Option.{Option}
+use Rattle.std.specs.declared.option.Option.the-variants.{Some, None}
+use Rattle.waiting.specs.Queues.{first-where}
+use Rattle.protocol.specs.Words.{every-item, no-item}
+use Rattle.protocol.proofs.Model.{In, All}
+
+module _ {A : Type 0} where
+  pub in-front : (z : A) (a b : List A) → In z a → In z (a ++ b)
+  in-front z [] b h = absurd h
+  in-front z (y ∷ a) b (inl q) = inl q
+  in-front z (y ∷ a) b (inr h) = inr (in-front z a b h)
+
+  pub in-back : (z : A) (a b : List A) → In z b → In z (a ++ b)
+  in-back z [] b h = h
+  in-back z (y ∷ a) b h = inr (in-back z a b h)
+
+  pub in-either : (z : A) (a b : List A) → In z (a ++ b) → In z a ⊎ In z b
+  in-either z [] b h = inr h
+  in-either z (y ∷ a) b (inl q) = inl (inl q)
+  in-either z (y ∷ a) b (inr h) = go (in-either z a b h)
+    where
+      go : In z a ⊎ In z b → In z (y ∷ a) ⊎ In z b
+      go (inl q) = inl (inr q)
+      go (inr q) = inr q
+
+  -- the list around place j
+  pub around : (xs : List A) (j : ℕ) (d : A) → j < length xs → xs ≡ take j xs ++ (getD xs j d ∷ drop (suc j) xs)
+  around [] j d h = absurd (omega arith)
+  around (x ∷ xs) zero d h = refl
+  around (x ∷ xs) (suc j) d h = ap (λ l. x ∷ l) (around xs j d (omega arith))
+
+  pub in-around : (xs : List A) (j : ℕ) (d : A) → j < length xs → In (getD xs j d) xs
+  in-around [] j d h = absurd (omega arith)
+  in-around (x ∷ xs) zero d h = inl refl
+  in-around (x ∷ xs) (suc j) d h = inr (in-around xs j d (omega arith))
+
+  pub in-take : (z : A) (j : ℕ) (xs : List A) → In z (take j xs) → In z xs
+  in-take z zero xs h = absurd h
+  in-take z (suc j) [] h = absurd h
+  in-take z (suc j) (x ∷ xs) (inl q) = inl q
+  in-take z (suc j) (x ∷ xs) (inr h) = inr (in-take z j xs h)
+
+  pub in-drop : (z : A) (j : ℕ) (xs : List A) → In z (drop j xs) → In z xs
+  in-drop z zero xs h = h
+  in-drop z (suc j) [] h = absurd h
+  in-drop z (suc j) (x ∷ xs) h = inr (in-drop z j xs h)
+
+  -- a search
+
+  pub found-within : (f : A → Bool) (i j : ℕ) (xs : List A) → first-where f i xs ≡ Some j → (i ≤ j) × (j < i + length xs)
+  found-within f i j [] e = let z : _≡_ {A = ℕ} 0 1 = cc in absurd (omega arith)
+  found-within f i j (x ∷ xs) e = go (f x) refl (found-within f (suc i) j xs)
+    where
+      go : (b : Bool) → f x ≡ b → (first-where f (suc i) xs ≡ Some j → (suc i ≤ j) × (j < suc i + length xs)) → (i ≤ j) × (j < i + length (x ∷ xs))
+      go true q rec =
+          let s : Some i ≡ Some j = rw q at e in
+          let r : i ≡ j = cc in
+          (omega arith, omega arith)
+      go false q rec =
+          let h = rec (rw q at e) in
+          (omega (arith, h .0), omega (arith, h .1))
+
+  -- what is found passes, and all before it fail
+  pub found-passes : (f : A → Bool) (d : A) (i j : ℕ) (xs : List A) → first-where f i xs ≡ Some (i + j) → f (getD xs j d) ≡ true
+  found-passes f d i j [] e = let z : _≡_ {A = ℕ} 0 1 = cc in absurd (omega arith)
+  found-passes f d i j (x ∷ xs) e = go (f x) refl (λ m. found-passes f d (suc i) m xs) j e
+    where
+      go : (b : Bool) → f x ≡ b → ((m : ℕ) → first-where f (suc i) xs ≡ Some (suc i + m) → f (getD xs m d) ≡ true) → (j : ℕ) → first-where f i (x ∷ xs) ≡ Some (i + j) → f (getD (x ∷ xs) j d) ≡ true
+      go true q rec j e =
+          let s : Some i ≡ Some (i + j) = rw q at e in
+          let r : i ≡ i + j = cc in
+          let z : j ≡ 0 = omega arith in
+          ap (λ m. f (getD (x ∷ xs) m d)) z ∙ q
+      go false q rec zero e =
+          let h = found-within f (suc i) (i + 0) xs (rw q at e) .0 in
+          absurd (omega arith)
+      go false q rec (suc j) e =
+          let s : first-where f (suc i) xs ≡ Some (i + suc j) = rw q at e in
+          let r : i + suc j ≡ suc i + j = omega arith in
+          rec j (s ∙ ap Some r)
+
+  pub found-first : (f : A → Bool) (i j : ℕ) (xs : List A) → first-where f i xs ≡ Some (i + j) → All (λ x. f x ≡ false) (take j xs)
+  found-first f i zero xs e = tt
+  found-first f i (suc j) [] e = tt
+  found-first f i (suc j) (x ∷ xs) e = go (f x) refl (found-first f (suc i) j xs)
+    where
+      go : (b : Bool) → f x ≡ b → (first-where f (suc i) xs ≡ Some (suc i + j) → All (λ x. f x ≡ false) (take j xs)) → All (λ x. f x ≡ false) (take (suc j) (x ∷ xs))
+      go true q rec =
+          let s : Some i ≡ Some (i + suc j) = rw q at e in
+          let r : i ≡ i + suc j = cc in
+          absurd (omega arith)
+      go false q rec =
+          let s : first-where f (suc i) xs ≡ Some (i + suc j) = rw q at e in
+          let r : i + suc j ≡ suc i + j = omega arith in
+          (q, rec (s ∙ ap Some r))
+
+  -- all of a list, through a view
+
+  pub all-map : {B : Type 0} (v : A → B) (P : A → Type 0) (Q : B → Type 0) → ((x : A) → P x → Q (v x)) → (xs : List A) → All P xs → All Q (map v xs)
+  all-map v P Q h [] a = tt
+  all-map v P Q h (x ∷ xs) a = (h x (a .0), all-map v P Q h xs (a .1))
+
+  -- the same, where the items are known to lie in the list
+  pub all-map-in : {B : Type 0} (v : A → B) (P : A → Type 0) (Q : B → Type 0) (xs : List A) → ((x : A) → In x xs → P x → Q (v x)) → All P xs → All Q (map v xs)
+  all-map-in v P Q [] h a = tt
+  all-map-in v P Q (x ∷ xs) h a = (h x (inl refl) (a .0), all-map-in v P Q xs (λ y i p. h y (inr i) p) (a .1))
+
+  pub none-passes : (f : A → Bool) (xs : List A) → no-item f xs ≡ true → All (λ x. f x ≡ false) xs
+  none-passes f [] e = tt
+  none-passes f (x ∷ xs) e = go (f x) refl (none-passes f xs)
+    where
+      go : (b : Bool) → f x ≡ b → (no-item f xs ≡ true → All (λ x. f x ≡ false) xs) → All (λ x. f x ≡ false) (x ∷ xs)
+      go true q rec =
+          let s : false ≡ true = rw q at e in
+          let z : _≡_ {A = ℕ} 0 1 = cc in
+          absurd (omega arith)
+      go false q rec =
+          let s : every-item (λ x. not (f x)) xs ≡ true = rw q at e in
+          (q, rec s)
+
+pub map-append : {A B : Type 0} (v : A → B) (a b : List A) → map v (a ++ b) ≡ map v a ++ map v b
+map-append v [] b = refl
+map-append v (x ∷ a) b = ap (λ l. v x ∷ l) (map-append v a b)

@@ -23,3 +23,4 @@ pub mod Faithful
 pub mod StepReading
 pub mod Readiness
 pub mod StepApplying
+pub mod StepReceiving

@@ -33,7 +33,7 @@ use Rattle.protocol.specs.Serving.{Served, ready-fetch, no-fetch, reply-size, 
 use Rattle.protocol.proofs.Model as model
 use Rattle.protocol.proofs.ModelBasics.{set-same, set-other}
 use Rattle.protocol.proofs.Views.{config, view, row-view, copy-view, update-view, fetch-view, when-ok, applied-event, served-event}
-use Rattle.protocol.proofs.Agreement.{Good-copy, Good-update, Sound, Agrees, by-apply, by-serve}
+use Rattle.protocol.proofs.Agreement.{Good-copy, Good-update, Good-fetch, Sound, Agrees, by-apply, by-serve}
 use Rattle.protocol.proofs.Lists.{in-take, in-drop, in-either, around, in-around, found-within, found-passes, found-first, all-map-in, map-append}
 use Rattle.protocol.proofs.Readiness.{need-is, ready-at, not-ready, row-in}
 use Rattle.protocol.proofs.Stepping.{Stepped, Ends, stepped-refused, need-ends, given-ends, cond-ends, set-at, raised-agrees}
@@ -157,3 +157,72 @@ module _ {V : Type 0} (k : Kind V) (p : Placed) (law : Lawful-placed p) (cu cf :
       go : (o : Option ℕ) → first-where (ready-update s) 0 (waiting-updates s) ≡ o → Ends k p law cu cf e t w s ok agree (applied-event k s o) (apply-first s o)
       go None q = stepped-refused k p law cu cf e t w s ok agree
       go (Some j) q = need-ends k p law cu cf e t w s ok agree _ (ltb (getD (s .applied) (getD (s .updates) j no-update .sender) 0) limit) CountAtLimit [] _ (λ _. apply-accepted j q)
+
+  -- serving the fetch at place j
+
+  module _ (j : ℕ) (found : first-where (ready-fetch s) 0 (waiting-fetches s) ≡ Some j) where
+    f : WaitingFetch
+    f = getD (s .fetches) j no-fetch
+
+    fetches-many : length (waiting-fetches s) ≡ s .fetches-waiting
+    fetches-many = length-take (s .fetches-waiting) (s .fetches) ∙ omega (arith, ok .fetches-fit, ok .fetches-long)
+
+    fetch-below : j < s .fetches-waiting
+    fetch-below = let h = found-within (ready-fetch s) 0 j (waiting-fetches s) found .1 in omega (arith, fetches-many)
+
+    fetch-item : getD (waiting-fetches s) j no-fetch ≡ f
+    unfolding f
+    fetch-item = item-in (s .fetches) (s .fetches-waiting) j no-fetch fetch-below
+
+    fetch-found : first-where (ready-fetch s) 0 (waiting-fetches s) ≡ Some (0 + j)
+    fetch-found = found ∙ ap Some (sym (zero-add j))
+
+    pub good-fetch : Good-fetch k (s .sites) (s .registers) (getD (s .fetches) j no-fetch)
+    unfolding f
+    good-fetch = ok .fetches f (subst (λ x. model.In x (waiting-fetches s)) fetch-item (in-around (waiting-fetches s) j no-fetch (omega (arith, fetch-below, fetches-many))))
+
+    fetch-rest : take (s .fetches-waiting - 1) (closed-up j (s .fetches-waiting) (s .fetches)) ≡ take j (waiting-fetches s) ++ drop (suc j) (waiting-fetches s)
+    fetch-rest = closed-list (s .fetches) j (s .fetches-waiting) fetch-below (omega (arith, ok .fetches-fit, ok .fetches-long))
+
+    serve-accepted : Stepped k p law cu cf e t w s (with-lists s (s .updates-waiting) (s .updates) (s .fetches-waiting - 1) (closed-up j (s .fetches-waiting) (s .fetches))) (served-event k s (Some j))
+    unfolding f
+    serve-accepted = record {
+      may = record {
+        waits =
+          agree .asks
+          ∙ ap (map (fetch-view (s .sites) (s .site))) (around (waiting-fetches s) j no-fetch (omega (arith, fetch-below, fetches-many)) ∙ ap (λ x. take j (waiting-fetches s) ++ (x ∷ drop (suc j) (waiting-fetches s))) fetch-item)
+          ∙ map-append (fetch-view (s .sites) (s .site)) (take j (waiting-fetches s)) (f ∷ drop (suc j) (waiting-fetches s));
+        ready = served-means f (subst (λ x. ready-fetch s x ≡ true) fetch-item (found-passes (ready-fetch s) no-fetch 0 j (waiting-fetches s) fetch-found));
+        oldest =
+          all-map-in (fetch-view (s .sites) (s .site)) (λ x. ready-fetch s x ≡ false) (λ y. model.Served-ready (config k p law) w y → ⊥) (take j (waiting-fetches s))
+          (λ x i r. unserved-means x r) (found-first (ready-fetch s) 0 j (waiting-fetches s) fetch-found);
+        answer = sym (agree .copy (f .register) (good-fetch .register));
+      };
+      changes = by-serve;
+      kept = refl;
+      sound = record {
+        site = ok .site; sites = ok .sites; registers = ok .registers; update-places = ok .update-places; fetch-places = ok .fetch-places;
+        copies-long = ok .copies-long; updates-long = ok .updates-long;
+        fetches-long = closed-length (s .fetches) j (s .fetches-waiting) fetch-below (omega (arith, ok .fetches-fit, ok .fetches-long)) ∙ ok .fetches-long;
+        updates-fit = ok .updates-fit; fetches-fit = omega (arith, ok .fetches-fit);
+        sent = ok .sent; applied-long = ok .applied-long; written = ok .written; fetched = ok .fetched;
+        copies = ok .copies; updates = ok .updates;
+        fetches = λ x i. ok .fetches x (within x (in-either x (take j (waiting-fetches s)) (drop (suc j) (waiting-fetches s)) (subst (λ l. model.In x l) fetch-rest i))) };
+      agrees = record {
+        sent = agree .sent; applies = agree .applies; copy = agree .copy; count = agree .count; fetches = agree .fetches; out = agree .out; updates = agree .updates;
+        asks = set-same (w .asks) (s .site) _ ∙ sym (ap (map (fetch-view (s .sites) (s .site))) fetch-rest ∙ map-append (fetch-view (s .sites) (s .site)) (take j (waiting-fetches s)) (drop (suc j) (waiting-fetches s))) };
+    }
+      where
+        within : (x : WaitingFetch) → model.In x (take j (waiting-fetches s)) ⊎ model.In x (drop (suc j) (waiting-fetches s)) → model.In x (waiting-fetches s)
+        within x (inl h) = in-take x j (waiting-fetches s) h
+        within x (inr h) = in-drop x (suc j) (waiting-fetches s) h
+
+  pub step-serving : (place : List ℕ) → Ends k p law cu cf e t w s ok agree (served-event k s (first-where (ready-fetch s) 0 (waiting-fetches s))) (serve-rule k p s place)
+  step-serving place = need-ends k p law cu cf e t w s ok agree _ (fits p s && fetches-ok s) OtherTables place _ (λ _. go (first-where (ready-fetch s) 0 (waiting-fetches s)) refl)
+    where
+      go : (o : Option ℕ) → first-where (ready-fetch s) 0 (waiting-fetches s) ≡ o → Ends k p law cu cf e t w s ok agree (served-event k s o) (serve-first k s place o)
+      go None q = stepped-refused k p law cu cf e t w s ok agree
+      go (Some j) q =
+          need-ends k p law cu cf e t w s ok agree _ (copy-ok k s (copy-of s (getD (s .fetches) j no-fetch .register))) OtherTables place _ (λ _.
+          given-ends k p law cu cf e t w s ok agree _ (value-of k (copy-of s (getD (s .fetches) j no-fetch .register))) place _ (λ v _.
+          need-ends k p law cu cf e t w s ok agree _ (leb (reply-size k s) (length place)) NoRoom place _ (λ _. serve-accepted j q)))

@@ -6,7 +6,7 @@ use mathlib.Core.Bool.{Bool, true, false, cond, _&&_}
 use Prim.Native.Nat.{ℕ, _+_, _-_, _*_, _^_, _<_, _≤_}
 use native.Mathlib.Nat.{lt-of-lt-of-le}
 use native.Mathlib.Omega.{arith}
-use borrow.Author.Tests.{eq-eqb, ne-eqb, lt-ltb, le-leb, eqb-true, eqb-false, ltb-true, leb-true}
+use borrow.Author.Tests.{eq-eqb, ne-eqb, lt-ltb, le-ltb, le-leb, eqb-true, eqb-false, ltb-true, leb-true}
 use lib.Dec.{eqb, ltb, leb}
 use lib.ListN.{length, take, drop, replicate, length-take, length-drop}
 use Rattle.std.proofs.shelf.Lists.{take-at}
@@ -31,7 +31,8 @@ use Rattle.frames.specs.declared.incoming.Incoming.the-variants.{OfUpdate, OfF
 use Rattle.frames.specs.declared.message.Update.{Update}
 use Rattle.frames.specs.declared.message.Fetch.{Fetch}
 use Rattle.frames.specs.declared.message.Reply.{Reply}
-use Rattle.frames.proofs.LayoutLaws.{frames-carry, only-frames-carry}
+use Rattle.frames.specs.Writing.{write-place}
+use Rattle.frames.proofs.LayoutLaws.{frames-carry, only-frames-carry, framed-length}
 
 -- checks that pass, and checks that have passed
 
@@ -418,3 +419,30 @@ module _ {V : Type 0} (k : Kind V) (bytes : List ℕ) where
 
   pub fetch-no-reply : (m : Fetch) → fetch-read bytes ≡ Ok m → (x : Reply V) → reply-read k bytes ≡ Ok x → ⊥
   fetch-no-reply m e x i = other-kind 3 2 bytes (reply-rest k bytes (bits-of bytes)) (kind-of 2 bytes (fetch-rest bytes (bits-of bytes)) m e .1) (λ z. omega arith) x i
+
+-- How long a frame is, and where it lies once written.
+
+module _ {V : Type 0} (k : Kind V) (law : Lawful k) where
+  pub update-length : (m : Update V) → m .sites * m .sites ≤ length (m .matrix .counts) → length (update-frame k m) ≡ bytes-for (update-bits k (m .sites))
+  unfolding update-frame
+  update-length m h =
+      let lc : length (carried (m .sites) (m .matrix .counts)) ≡ m .sites * m .sites = simp length-take (omega arith) in
+      framed-length (update-fields m) (carried (m .sites) (m .matrix .counts)) (k .bits (m .value)) ∙ ap₂ (λ x y. bytes-for (43 + 24 * x + y)) lc (law .sized (m .value))
+
+  pub reply-length : (m : Reply V) → m .sites * m .sites ≤ length (m .matrix .counts) → length (reply-frame k m) ≡ bytes-for (reply-bits k (m .sites))
+  unfolding reply-frame
+  reply-length m h =
+      let lc : length (carried (m .sites) (m .matrix .counts)) ≡ m .sites * m .sites = simp length-take (omega arith) in
+      framed-length (reply-fields m) (carried (m .sites) (m .matrix .counts)) (k .bits (m .value)) ∙ ap₂ (λ x y. bytes-for (74 + 24 * x + y)) lc (law .sized (m .value))
+
+pub fetch-length : (m : Fetch) → m .sites ≤ length (m .column .counts) → length (fetch-frame m) ≡ bytes-for (fetch-bits (m .sites))
+unfolding fetch-frame
+fetch-length m h =
+    let lc : length (take (m .sites) (m .column .counts)) ≡ m .sites = simp length-take (omega arith) in
+    let z : 46 + 24 * length (take (m .sites) (m .column .counts)) + 0 ≡ fetch-bits (m .sites) = omega (arith, lc) in
+    framed-length (fetch-fields m) (take (m .sites) (m .column .counts)) [] ∙ ap bytes-for z
+
+pub placed-frame : (size : ℕ) (frame place : List ℕ) → length frame ≡ size → size ≤ length place → take size (write-place size frame place) ≡ frame
+placed-frame size frame place l h =
+    let t : ltb (length place) size ≡ false = le-ltb _ _ h in
+    ap (λ b. take size (cond b place (frame ++ drop size place))) t ∙ take-at frame (drop size place) size l

@@ -24,3 +24,12 @@ pub mod StepReading
 pub mod Readiness
 pub mod StepApplying
 pub mod StepReceiving
+pub mod StepFrames
+pub mod Racks
+pub mod Accepted
+pub mod Steps
+pub mod Meanings
+pub mod Orders
+pub mod ReadyItems
+pub mod Promised
+pub mod EveryRun

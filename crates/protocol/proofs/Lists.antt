@@ -131,3 +131,8 @@ module _ {A : Type 0} where
 pub map-append : {A B : Type 0} (v : A → B) (a b : List A) → map v (a ++ b) ≡ map v a ++ map v b
 map-append v [] b = refl
 map-append v (x ∷ a) b = ap (λ l. v x ∷ l) (map-append v a b)
+
+pub in-map : {A B : Type 0} (v : A → B) (z : A) (xs : List A) → In z xs → In (v z) (map v xs)
+in-map v z [] h = absurd h
+in-map v z (x ∷ xs) (inl q) = inl (ap v q)
+in-map v z (x ∷ xs) (inr h) = inr (in-map v z xs h)

@@ -115,14 +115,14 @@ pub write-label : {V : Type 0} (k : Kind V) (p : Placed) (s : State) (z : Sessio
     (a : Written) → write-rule k p s z r v place .answer ≡ Ok a → a .label ≡ (s .site, s .written + 1)
 write-label k p s z r v place a e =
     let h = needs-ok s place ((fits p s, OtherTables) ∷ (shows z s, OtherSession) ∷ (not (is-out (s .out)), FetchIsOut) ∷ (ltb r (s .registers), NoSuchRegister) ∷ (can-write p s r, CountAtLimit) ∷ [])
-        (written-to k p s r v place) a e in
+    (written-to k p s r v place) a e in
     elim (either-ok (eqb (others p r (s .site)) 0) (leb (update-size k s) (length place)) NoRoom s place
-      (record { answer = Ok (record { label = (s .site, s .written + 1); others = 0; length = 0 }); after = after-write k p s r v; place = place })
-      (record {
-        answer = Ok (record { label = (s .site, s .written + 1); others = others p r (s .site); length = update-size k s });
-        after = after-write k p s r v;
-        place = write-place (update-size k s) (update-frame k (update-sent p s r v)) place;
-      }) a (h .1)) [ inl q ↦ the-label 0 0 a q | inr q ↦ the-label (others p r (s .site)) (update-size k s) a q ]
+    (record { answer = Ok (record { label = (s .site, s .written + 1); others = 0; length = 0 }); after = after-write k p s r v; place = place })
+    (record {
+      answer = Ok (record { label = (s .site, s .written + 1); others = others p r (s .site); length = update-size k s });
+      after = after-write k p s r v;
+      place = write-place (update-size k s) (update-frame k (update-sent p s r v)) place;
+    }) a (h .1)) [ inl q ↦ the-label 0 0 a q | inr q ↦ the-label (others p r (s .site)) (update-size k s) a q ]
   where
     the-label : (o m : ℕ) (a : Written) → _≡_ {A = Result Written Fault} (Ok (record { label = (s .site, s .written + 1); others = o; length = m })) (Ok a) → a .label ≡ (s .site, s .written + 1)
     the-label o m a q = let x : record { label = (s .site, s .written + 1); others = o; length = m } ≡ a = cc in ap (λ a. a .label) (sym x)
@@ -182,12 +182,13 @@ pub read-here : {V : Type 0} (k : Kind V) → Lawful k → (p : Placed) (s : Sta
     (a : Read V) → read-rule k p s z r .answer ≡ Ok a → Read-here k s r a
 read-here {V} k law p s z r a e =
     let h = needs-ok s [] ((fits p s && copy-read-ok k p s r, OtherTables) ∷ (shows z s, OtherSession) ∷ (not (is-out (s .out)), FetchIsOut) ∷ (ltb r (s .registers), NoSuchRegister) ∷ (bound-for p r (s .site), NotHeldHere) ∷ [])
-        (given (value-of k (copy-of s r)) s [] inner) a e in
+    (given (value-of k (copy-of s r)) s [] inner) a e in
     let g = given-ok (value-of k (copy-of s r)) s [] inner a (h .1) in
     gives-ok (Read-here k s r) (record { value = g .0; label = copy-of s r .label }) (go (h .0 .0) (h .0 .1 .1 .1 .1 .0) (g .0) (g .1)) a (g .2)
   where
     inner : V → Outcome (Read V)
     inner v = record { answer = Ok (record { value = v; label = copy-of s r .label }); after = merged-with s (copy-of s r .matrix .counts) (s .out); place = [] }
+
     go : (fits p s && copy-read-ok k p s r) ≡ true → bound-for p r (s .site) ≡ true → (v : V) → value-of k (copy-of s r) ≡ Ok v →
         Read-here k s r (record { value = v; label = copy-of s r .label })
     go h b v e =
@@ -219,14 +220,19 @@ reply-label {V} k bytes =
   where
     B : List Bool
     B = bits-of bytes
+
     behind : ℕ → ℕ × ℕ → Result (Reply V) Fault
     behind n ends = check (leb 1 (field B 22 24)) 22 (onward (copy-read k bytes B n) (λ copy. Ok (reply-of B n ends copy)))
+
     P : Reply V → Type 0
     P m = Labelled (m .label) (writer (m .label)) (write-number (m .label))
+
     Q : Option (ℕ × ℕ) × V → Type 0
     Q c = Labelled (c .0) (writer (c .0)) (write-number (c .0))
+
     last : ℕ → Option (ℕ × ℕ) → V → Result (Option (ℕ × ℕ) × V) Fault
     last n label v = check (filled bytes (reply-bits k n)) (reply-bits k n) (Ok (label, v))
+
     brought : (n : ℕ) → (c : Option (ℕ × ℕ) × V) → copy-read k bytes B n ≡ Ok c → Q c
     brought n =
         onward-gives Q (label-read B) (λ label. onward (value-at k B (74 + 24 * (n * n))) (last n label)) (λ label e.
@@ -246,7 +252,7 @@ reply-taken {V} k p s z bytes a e =
     let g = given-ok (reply-read k bytes) s [] (taken-reply s) a (h .1) in
     let m = g .0 in
     let j = needs-ok s [] ((reply-for-here s m, NotForThisSite) ∷ (of-the-fetch s m, OtherFetch) ∷ (caught-up s (column (s .sites) (m .matrix .counts) (s .site)), NotCaughtUp) ∷ [])
-        (record { answer = Ok (record { value = m .value; label = m .label }); after = merged-with s (m .matrix .counts) None; place = [] }) a (g .2) in
+    (record { answer = Ok (record { value = m .value; label = m .label }); after = merged-with s (m .matrix .counts) None; place = [] }) a (g .2) in
     gives-ok (Reply-taken k bytes) (record { value = m .value; label = m .label }) (record { message = m; reads = g .1; answer = refl; labelled = reply-label k bytes m (g .1) }) a (j .1)
 
 -- applying: the first update that is ready

@@ -4,7 +4,6 @@ use mathlib.Core.Bool.{Bool, true, false, cond}
 use mathlib.Core.List.{List, map}
 use Prim.Native.Nat.{ℕ, _*_, _<_, _≤_}
 use lib.ListN.{length, getD}
-use Rattle.std.specs.declared.option.Option.{Option}
 use Rattle.clocks.specs.Counts.{limit, within}
 use Rattle.frames.specs.Messages.{Label, Number}
 use Rattle.values.specs.Kinds.{Kind}
@@ -14,8 +13,8 @@ use Rattle.waiting.specs.declared.items.WaitingUpdate.{WaitingUpdate}
 use Rattle.protocol.specs.States.{Placed, State}
 use Rattle.protocol.specs.Words.{plain-bytes, waiting-updates, waiting-fetches, copy-of}
 use Rattle.protocol.specs.Runs.{Rack, at}
-use Rattle.protocol.proofs.Model.{Config, World, Write, Ask, Waiting, Way, Event, In, set, after, refused, wrote, reads, received, applied, asked, queued, served, dropped, local, fetched}
-use Rattle.protocol.proofs.ModelBasics.{set-same, set-other}
+use Rattle.protocol.proofs.Model.{Config, World, Write, Waiting, Way, Event, In, set, after, refused, wrote, reads, received, applied, asked, queued, served, dropped, local, fetched}
+use Rattle.protocol.proofs.ModelBasics.{set-other}
 use Rattle.protocol.proofs.Views.{view, copy-view, update-view, fetch-view, out-view}
 
 -- a matrix of n sites that the library has made: room for 64 counts, those of the sites in range
@@ -129,13 +128,24 @@ untouched g w (wrote x) i j by-write ne = record {
   applies = maybe-set (g .holds (x .reg) (x .by)) (w .applies) (x .by) j _ ne;
   copy = maybe-set (g .holds (x .reg) (x .by)) (w .copy) (x .by) j _ ne;
   count = set-other (w .count) (x .by) j _ ne;
-  fetches = refl; out = refl; updates = refl; asks = refl;
+  fetches = refl;
+  out = refl;
+  updates = refl;
+  asks = refl;
 }
 untouched g w (reads i x local) i′ j by-read ne = record { sent = set-other (w .sent) i j _ ne; applies = refl; copy = refl; count = refl; fetches = refl; out = refl; updates = refl; asks = refl }
 untouched g w (reads i x (fetched a)) i′ j by-read ne = record { sent = set-other (w .sent) i j _ ne; applies = refl; copy = refl; count = refl; fetches = refl; out = set-other (w .out) i j _ ne; updates = refl; asks = refl }
 untouched g w (received i x) i′ j by-receive ne = record { sent = refl; applies = refl; copy = refl; count = refl; fetches = refl; out = refl; updates = set-other (w .updates) i j _ ne; asks = refl }
 untouched g w (applied i x a b) i′ j by-apply ne = record {
-  sent = refl; applies = set-other (w .applies) i j _ ne; copy = set-other (w .copy) i j _ ne; count = refl; fetches = refl; out = refl; updates = set-other (w .updates) i j _ ne; asks = refl }
+  sent = refl;
+  applies = set-other (w .applies) i j _ ne;
+  copy = set-other (w .copy) i j _ ne;
+  count = refl;
+  fetches = refl;
+  out = refl;
+  updates = set-other (w .updates) i j _ ne;
+  asks = refl;
+}
 untouched g w (asked q) i j by-ask ne = record { sent = refl; applies = refl; copy = refl; count = refl; fetches = set-other (w .fetches) (q .ask .reader) j _ ne; out = set-other (w .out) (q .ask .reader) j _ ne; updates = refl; asks = refl }
 untouched g w (queued q) i j by-queue ne = record { sent = refl; applies = refl; copy = refl; count = refl; fetches = refl; out = refl; updates = refl; asks = set-other (w .asks) (q .ask .home) j _ ne }
 untouched g w (served q x a b) i j by-serve ne = record { sent = refl; applies = refl; copy = refl; count = refl; fetches = refl; out = refl; updates = refl; asks = set-other (w .asks) (q .ask .home) j _ ne }

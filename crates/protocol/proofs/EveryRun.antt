@@ -1,9 +1,8 @@
 -- Every run of the rules is faithful to its run of the model, by induction on the calls; so it keeps the promises.
 use mathlib.Core.Path.{_≡_, refl, sym, ap, subst, _∙_}
-use mathlib.Core.Bool.{Bool, true, false}
 use mathlib.Core.List.{List, [], _∷_, map}
 use mathlib.Core.Logic.{_⊎_, inl, inr}
-use Prim.Native.Nat.{ℕ, zero, suc, _+_, _*_, _<_, _≤_}
+use Prim.Native.Nat.{ℕ, zero, suc, _*_, _<_, _≤_}
 use native.Mathlib.Decide.{decLt, ℕ-discrete}
 use native.Mathlib.Omega.{arith}
 use lib.ListN.{length, take, getD}
@@ -25,7 +24,7 @@ use Rattle.frames.specs.declared.message.Update.{Update}
 use Rattle.frames.proofs.RoundTrips.{reads-back, incoming-update, incoming-fetch, incoming-reply}
 use Rattle.waiting.specs.Queues.{first-where}
 use Rattle.waiting.specs.declared.items.WaitingUpdate.{WaitingUpdate}
-use Rattle.protocol.specs.States.{Placed, Lawful-placed, State, Session, Outcome}
+use Rattle.protocol.specs.States.{Placed, Lawful-placed, State}
 use Rattle.protocol.specs.Words.{waiting-updates, waiting-fetches}
 use Rattle.protocol.specs.Writing.{write-rule}
 use Rattle.protocol.specs.Reading.{read-rule}
@@ -34,8 +33,8 @@ use Rattle.protocol.specs.Receiving.{receive-rule}
 use Rattle.protocol.specs.Applying.{ready-update, apply-rule}
 use Rattle.protocol.specs.Serving.{ready-fetch, serve-rule}
 use Rattle.protocol.specs.Replying.{take-rule, abandon-rule}
-use Rattle.protocol.specs.Runs.{Call, Answer, Step, Step-at, first, later, Rack, Run, Given-frame, Sent-before, write, read, fetch, receive, apply, serve, take-reply, abandon, received, new-rack, at, step, site-of, told-so, rack-after, history, frame-of}
-use Rattle.protocol.specs.Promises.{Promised, Every-run-keeps-the-promises}
+use Rattle.protocol.specs.Runs.{Call, Answer, Step, Step-at, first, later, Rack, Run, Given-frame, write, read, fetch, receive, apply, serve, take-reply, abandon, received, new-rack, at, step, site-of, told-so, rack-after, history, frame-of}
+use Rattle.protocol.specs.Promises.{Every-run-keeps-the-promises}
 use Rattle.protocol.proofs.Model as model
 use Rattle.protocol.proofs.ModelInvariant.{inv}
 use Rattle.protocol.proofs.Views.{config, view, events, event-of, when-ok, received-event, applied-event, served-event, replied-event, update-view, update-sent-view}
@@ -196,13 +195,13 @@ module _ {V : Type 0} (k : Kind V) (lawk : Lawful k) (p : Placed) (law : Lawful-
       let ev : e t ≡ event-of k p (rack-at t) (x .call) = s .1 in
       let L : model.Event → Type 0 = λ v. Linked k p cu cf (model.after g v (model.world g e t)) (rack-at (suc t)) in
       let l : Linked k p cu cf (model.after g (event-of k p (rack-at t) (x .call)) (model.world g e t)) (rack-at (suc t)) =
-          subst (Linked k p cu cf (model.after g (event-of k p (rack-at t) (x .call)) (model.world g e t))) (sym (rack-next k p w0 cs t x a ∙ c .rack-is))
-          (relinked k lawk p law cu cf e t (model.world g e t) (rack-at t) i (c .state) (event-of k p (rack-at t) (x .call)) here (o .linked) (c .stepped)) in
+      subst (Linked k p cu cf (model.after g (event-of k p (rack-at t) (x .call)) (model.world g e t))) (sym (rack-next k p w0 cs t x a ∙ c .rack-is))
+      (relinked k lawk p law cu cf e t (model.world g e t) (rack-at t) i (c .state) (event-of k p (rack-at t) (x .call)) here (o .linked) (c .stepped)) in
       let M : model.Event → Type 0 = λ v. model.May g e t (model.world g e t) v in
       next-known t o (subst L (sym ev) l) (subst M (sym ev) (c .stepped .may))
       (λ y bytes f b.
-          let q : x ≡ y = same-step h t x y a b in
-          call-frame k lawk p law cu cf e t (model.world g e t) (rack-at t) (o .linked) (x .call) here ev bytes (ap frame-of (sym (s .0)) ∙ ap (λ z. frame-of (z .answer)) q ∙ f))
+      let q : x ≡ y = same-step h t x y a b in
+      call-frame k lawk p law cu cf e t (model.world g e t) (rack-at t) (o .linked) (x .call) here ev bytes (ap frame-of (sym (s .0)) ∙ ap (λ z. frame-of (z .answer)) q ∙ f))
 
   known : (t : ℕ) → Known t
   unfolding model.world rack-after
@@ -230,13 +229,15 @@ module _ {V : Type 0} (k : Kind V) (lawk : Lawful k) (p : Placed) (law : Lawful-
 
   -- what receiving the frame of an event is
   received-as : (t j src : ℕ) (bytes : List ℕ) → j < p .sites → Carried k (p .sites) e src bytes → (i : ℕ) (x : model.Write)
-    → received-event k (at (rack-at t) j .sites) (at (rack-at t) j .site) (incoming-read k bytes) ≡ model.received i x → (j ≡ i) × (e src ≡ model.wrote x)
+      → received-event k (at (rack-at t) j .sites) (at (rack-at t) j .site) (incoming-read k bytes) ≡ model.received i x → (j ≡ i) × (e src ≡ model.wrote x)
   received-as t j src bytes hj c i x q = go c (incoming-read k bytes) refl q
     where
       site : at (rack-at t) j .site ≡ j
       site = known t .linked .number j hj
+
       sites : at (rack-at t) j .sites ≡ p .sites
       sites = known t .linked .sound j hj .sites
+
       go : Carried k (p .sites) e src bytes → (r : Result (Incoming V) Fault) → incoming-read k bytes ≡ r → received-event k (at (rack-at t) j .sites) (at (rack-at t) j .site) r ≡ model.received i x → (j ≡ i) × (e src ≡ model.wrote x)
       go c (Err f) z q = let y : _≡_ {A = ℕ} 0 1 = cc in absurd (omega arith)
       go c (Ok (OfFetch m)) z q = let y : _≡_ {A = ℕ} 0 1 = cc in absurd (omega arith)
@@ -256,33 +257,40 @@ module _ {V : Type 0} (k : Kind V) (lawk : Lawful k) (p : Placed) (law : Lawful-
           absurd (incoming-reply k (reply-frame k m) (reply-clean m) (reads-back k lawk .2 m good) (OfUpdate u) (ap (incoming-read k) (sym b) ∙ z))
 
   from-a-write : (t i : ℕ) (x : model.Write) → e t ≡ model.received i x
-    → (s : ℕ) × (bytes : List ℕ) × (s < t) × (e s ≡ model.wrote x) × Step-at h t (record { call = receive i bytes; answer = received })
-    × ((y : Step V) → Step-at h s y → frame-of (y .answer) ≡ Some bytes)
+      → (s : ℕ) × (bytes : List ℕ) × (s < t) × (e s ≡ model.wrote x) × Step-at h t (record { call = receive i bytes; answer = received })
+      × ((y : Step V) → Step-at h s y → frame-of (y .answer) ≡ Some bytes)
   from-a-write t i x q = go (some-step k p w0 cs t)
     where
       accepted : {A : Type 0} (r : Result A Fault) (v : model.Event) (place : List ℕ) → when-ok r v ≡ model.received i x → told-so {V = V} (λ _ _. received) r place ≡ received
       accepted (Ok a) v place q = refl
       accepted (Err f) v place q = let z : _≡_ {A = ℕ} 0 1 = cc in absurd (omega arith)
+
       by-call : (c : Call V) (a : Answer V) → Step-at h t (record { call = c; answer = a }) → event-of k p (rack-at t) c ≡ model.received i x → Receiving k p (rack-at t) i x c
-        → (s : ℕ) × (bytes : List ℕ) × (s < t) × (e s ≡ model.wrote x) × Step-at h t (record { call = receive i bytes; answer = received }) × ((y : Step V) → Step-at h s y → frame-of (y .answer) ≡ Some bytes)
+          → (s : ℕ) × (bytes : List ℕ) × (s < t) × (e s ≡ model.wrote x) × Step-at h t (record { call = receive i bytes; answer = received }) × ((y : Step V) → Step-at h s y → frame-of (y .answer) ≡ Some bytes)
       by-call c a st ev (receiving j bytes q) =
           let sent = run .handed t (record { call = receive j bytes; answer = a }) st in
           let hj = run .sited t (record { call = receive j bytes; answer = a }) st in
           let f = frame-at (sent .0) (sent .1) bytes (sent .3) (sent .4) in
           let r = received-as t j (sent .0) bytes hj f i x q in
           let ans : a ≡ received = at-step k p w0 cs t _ st .0 ∙ accepted (receive-rule k p (at (rack-at t) j) bytes .answer) _ _ ev in
-          let P : ℕ → Answer V → Type 0 = λ j a. Step-at h t (record { call = receive j bytes; answer = a }) in
-          (sent .0, bytes, sent .2, r .1, subst (λ b. P i b) ans (subst (λ j. P j a) (r .0) st),
-            λ y b. ap (λ z. frame-of (z .answer)) (same-step h (sent .0) y (sent .1) b (sent .3)) ∙ sent .4)
+          let P : ℕ → Answer V → Type 0 = λ j a. Step-at h t (record { call = receive j bytes; answer = a }) in (
+            sent .0,
+            bytes,
+            sent .2,
+            r .1,
+            subst (λ b. P i b) ans (subst (λ j. P j a) (r .0) st),
+            λ y b. ap (λ z. frame-of (z .answer)) (same-step h (sent .0) y (sent .1) b (sent .3)) ∙ sent .4,
+          )
+
       go : (e t ≡ model.refused) ⊎ ((y : Step V) × Step-at h t y)
-        → (s : ℕ) × (bytes : List ℕ) × (s < t) × (e s ≡ model.wrote x) × Step-at h t (record { call = receive i bytes; answer = received }) × ((y : Step V) → Step-at h s y → frame-of (y .answer) ≡ Some bytes)
+          → (s : ℕ) × (bytes : List ℕ) × (s < t) × (e s ≡ model.wrote x) × Step-at h t (record { call = receive i bytes; answer = received }) × ((y : Step V) → Step-at h s y → frame-of (y .answer) ≡ Some bytes)
       go (inl z) = let y : model.refused ≡ model.received i x = sym z ∙ q in let n : _≡_ {A = ℕ} 0 1 = cc in absurd (omega arith)
       go (inr u) =
           let ev : event-of k p (rack-at t) (u .0 .call) ≡ model.received i x = sym (at-step k p w0 cs t (u .0) (u .1) .1) ∙ q in
           by-call (u .0 .call) (u .0 .answer) (u .1) ev (only-receiving k p (rack-at t) (u .0 .call) i x ev)
 
   as-that-write : (t i s : ℕ) (bytes : List ℕ) (x : model.Write) (y : Step V) → Step-at h t (record { call = receive i bytes; answer = received })
-    → Step-at h s y → frame-of (y .answer) ≡ Some bytes → e s ≡ model.wrote x → e t ≡ model.received i x
+      → Step-at h s y → frame-of (y .answer) ≡ Some bytes → e s ≡ model.wrote x → e t ≡ model.received i x
   as-that-write t i s bytes x y st sy q w =
       let hi = run .sited t (record { call = receive i bytes; answer = received }) st in
       let a = at-step k p w0 cs t _ st in
@@ -290,6 +298,7 @@ module _ {V : Type 0} (k : Kind V) (lawk : Lawful k) (p : Placed) (law : Lawful-
     where
       v : model.Event
       v = received-event k (at (rack-at t) i .sites) (at (rack-at t) i .site) (incoming-read k bytes)
+
       event : i < p .sites → Carried k (p .sites) e s bytes → v ≡ model.received i x
       event hi (of-update m b good n from) =
           let r : incoming-read k bytes ≡ Ok (OfUpdate (update-clean m)) = ap (incoming-read k) b ∙ incoming-update k (update-frame k m) (update-clean m) (reads-back k lawk .0 m good) in
@@ -302,6 +311,7 @@ module _ {V : Type 0} (k : Kind V) (lawk : Lawful k) (p : Placed) (law : Lawful-
           ∙ ap (model.received i) (clean m good n (at (rack-at t) i .sites) sites ∙ z)
       event hi (of-fetch m b good n from) = let z : model.asked _ ≡ model.wrote x = sym from ∙ w in let y : _≡_ {A = ℕ} 0 1 = cc in absurd (omega arith)
       event hi (of-reply m col front back b good n from) = let z : model.served _ _ front back ≡ model.wrote x = sym from ∙ w in let y : _≡_ {A = ℕ} 0 1 = cc in absurd (omega arith)
+
       go : i < p .sites → Carried k (p .sites) e s bytes → (r : Result (Unit {0}) Fault) (place : List ℕ) → _≡_ {A = Answer V} received (told-so (λ _ _. received) r place) → when-ok r v ≡ model.received i x
       go hi c (Ok u) place z = event hi c
       go hi c (Err f) place z = let y : _≡_ {A = ℕ} 0 1 = cc in absurd (omega arith)
@@ -325,8 +335,8 @@ module _ {V : Type 0} (k : Kind V) (lawk : Lawful k) (p : Placed) (law : Lawful-
     site-is = λ t i hi. known t .linked .number i hi;
     sites-is = λ t i hi. known t .linked .sound i hi .sites;
     waiting = λ t i hi.
-      let l = known t .linked in
-      ap (model.world g e t .updates) (sym (l .number i hi)) ∙ l .agrees i hi .updates ∙ ap (λ n. map (update-view k n) (waiting-updates (at (rack-at t) i))) (l .sound i hi .sites);
+        let l = known t .linked in
+        ap (model.world g e t .updates) (sym (l .number i hi)) ∙ l .agrees i hi .updates ∙ ap (λ n. map (update-view k n) (waiting-updates (at (rack-at t) i))) (l .sound i hi .sites);
     applies = λ t i a hi ha. let l = known t .linked in ap (λ j. model.world g e t .applies j a) (sym (l .number i hi)) ∙ l .agrees i hi .applies a;
     roomy = roomy;
     from-a-write = from-a-write;

@@ -150,7 +150,7 @@ module _ {V : Type 0} (k : Kind V) (kl : Lawful k) (p : Placed) (law : Lawful-pl
   write-event t i m r v a =
       let s = at-step k p w cs t _ (a .step) in
       let o = told-ok Answer.written (write-rule k p (S t i) (a .session) r v (a .place) .answer) (write-rule k p (S t i) (a .session) r v (a .place) .place) (Answer.written (a .answer) (a .after))
-          (λ x q. let z : _≡_ {A = ℕ} 0 1 = cc in omega arith) (s .0) in
+      (λ x q. let z : _≡_ {A = ℕ} 0 1 = cc in omega arith) (s .0) in
       let e : E t ≡ wrote (wrote-view k p (S t i) r v) = s .1 ∙ ap (λ x. when-ok x (wrote (wrote-view k p (S t i) r v))) (o .1) in
       let b = event-write t (wrote-view k p (S t i) r v) e in
       let c = writes-alike t _ i _ m _ r (b .0) v (b .1) a in
@@ -181,7 +181,7 @@ module _ {V : Type 0} (k : Kind V) (kl : Lawful k) (p : Placed) (law : Lawful-pl
   ask-event t i r a =
       let s = at-step k p w cs t _ (a .step) in
       let o = told-ok Answer.begun (fetch-rule p (S t i) (a .session) r (a .place) .answer) (fetch-rule p (S t i) (a .session) r (a .place) .place) (Answer.begun (a .answer) (a .after))
-          (λ x q. let z : _≡_ {A = ℕ} 0 1 = cc in omega arith) (s .0) in
+      (λ x q. let z : _≡_ {A = ℕ} 0 1 = cc in omega arith) (s .0) in
       let e : E t ≡ asked (asked-view p (S t i) r) = s .1 ∙ ap (λ x. when-ok x (asked (asked-view p (S t i) r))) (o .1) in
       record { asks = asked-view p (S t i) r; event = e; by = f .site-is t i (f .sited t _ (a .step)); register = refl }
 
@@ -200,10 +200,10 @@ module _ {V : Type 0} (k : Kind V) (kl : Lawful k) (p : Placed) (law : Lawful-pl
         after = b .after;
         answer = b .answer;
         step = subst (λ j. Step-at H (l .when) (record { call = fetch j (b .session) (a .reg) (b .place); answer = begun (b .answer) (b .after) })) (l .mine)
-          (subst (λ c. Step-at H (l .when) (record { call = fetch (l .asks .ask .reader) (b .session) (c .reg) (b .place); answer = begun (b .answer) (b .after) })) (l .same) (b .step));
+            (subst (λ c. Step-at H (l .when) (record { call = fetch (l .asks .ask .reader) (b .session) (c .reg) (b .place); answer = begun (b .answer) (b .after) })) (l .same) (b .step));
         latest = λ s z q y y′ g lo hi st.
-          let c = ask-event s i q (record { session = z; place = y; after = y′; answer = g; step = st }) in
-          l .latest s (c .asks) lo hi (c .event) (c .by);
+            let c = ask-event s i q (record { session = z; place = y; after = y′; answer = g; step = st }) in
+            l .latest s (c .asks) lo hi (c .event) (c .by);
       }
 
   fetching-alike : (t i r q : ℕ) → Fetching H t i r → Fetching H t i q → r ≡ q
@@ -312,7 +312,7 @@ module _ {V : Type 0} (k : Kind V) (kl : Lawful k) (p : Placed) (law : Lawful-pl
       let m = reply-taken k p (S t i) z bytes (o .0) (o .1) in
       let x = reply-sent-view k (S t i .sites) (m .message) in
       let e : E t ≡ reads (S t i .site) x (Way.fetched (reply-ask (m .message))) =
-          s .1 ∙ ap (λ y. when-ok y (replied-event k (S t i) (reply-read k bytes))) (o .1) ∙ ap (λ y. replied-event k (S t i) y) (m .reads) in
+      s .1 ∙ ap (λ y. when-ok y (replied-event k (S t i) (reply-read k bytes))) (o .1) ∙ ap (λ y. replied-event k (S t i) y) (m .reads) in
       (x, reply-ask (m .message), subst (λ j. E t ≡ reads j x (Way.fetched (reply-ask (m .message)))) (f .site-is t i (f .sited t _ st)) e)
 
   pub read-event : (t i r : ℕ) (v : V) (label : Option (ℕ × ℕ)) → Reads H t i r v label → As-read t i r v label
@@ -379,7 +379,7 @@ module _ {V : Type 0} (k : Kind V) (kl : Lawful k) (p : Placed) (law : Lawful-pl
       let a = map (update-view k (S t i .sites)) (take (g .place) (waiting-updates (S t i))) in
       let b = map (update-view k (S t i .sites)) (drop (suc (g .place)) (waiting-updates (S t i))) in
       let e : E t ≡ model.applied (S t i .site) x a b =
-          s .1 ∙ ap (λ y. when-ok y (applied-event k (S t i) (first-where (ready-update (S t i)) 0 (waiting-updates (S t i))))) (o .1) ∙ ap (λ y. applied-event k (S t i) y) (g .found) in
+      s .1 ∙ ap (λ y. when-ok y (applied-event k (S t i) (first-where (ready-update (S t i)) 0 (waiting-updates (S t i))))) (o .1) ∙ ap (λ y. applied-event k (S t i) y) (g .found) in
       record {
         write = x;
         front = a;

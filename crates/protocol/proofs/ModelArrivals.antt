@@ -1,18 +1,16 @@
 -- The waiting list of a site holds what was received there and not applied since, in that order.
 use mathlib.Core.Path.{_≡_, refl, sym, _∙_, ap, subst}
 use mathlib.Core.Logic.{_⊎_, inl, inr}
-use mathlib.Core.Bool.{Bool, true, false, cond}
 use mathlib.Core.List.{List, [], _∷_, _++_}
-use mathlib.Core.Option.{Option, none, some}
-use Prim.Native.Nat.{ℕ, zero, suc, _+_, _-_, _≤_, _<_, max}
+use Prim.Native.Nat.{ℕ, zero, suc, _≤_, _<_}
 use native.Mathlib.Omega.{arith}
-use native.Mathlib.Decide.{decLe, decLt, ℕ-discrete}
-use Rattle.protocol.proofs.Model.{Config, Write, Ask, Waiting, Way, Event, World, set, wrote, reads, applied, refused, received, asked, queued, served, dropped, local, fetched, world, updates-after, In, All, Run, Earlier, May, May-receive}
-use Rattle.protocol.proofs.ModelCausal.{Applies, by-applying, by-writing, Applied-before, Waits}
-use Rattle.protocol.proofs.ModelBasics.{set-cases, set-same, set-other, in-mid, in-skip, in-snoc, in-front, in-other, in-split, all-in}
-use Rattle.protocol.proofs.ModelKnown.{Held, Known, known}
-use Rattle.protocol.proofs.ModelCore.{same-write, may-apply}
-use Rattle.protocol.proofs.ModelInvariant.{inv, only-wrote, only-applied, apart-mid, quiet-none}
+use native.Mathlib.Decide.{decLt}
+use Rattle.protocol.proofs.Model.{Config, Write, Event, World, wrote, reads, applied, refused, received, asked, queued, served, dropped, world, updates-after, In, Run, May, May-receive}
+use Rattle.protocol.proofs.ModelCausal.{Applies, by-applying, by-writing, Waits}
+use Rattle.protocol.proofs.ModelBasics.{set-cases, set-same, in-mid, in-skip, in-front, in-other, in-split, all-in}
+use Rattle.protocol.proofs.ModelKnown.{known}
+use Rattle.protocol.proofs.ModelCore.{same-write}
+use Rattle.protocol.proofs.ModelInvariant.{inv, only-applied, apart-mid, quiet-none}
 
 -- the items of a list were received at rising times from lo on, and wait
 abbrev pub Arrived : Config → (ℕ → Event) → ℕ → ℕ → ℕ → List Write → Type 0
@@ -42,7 +40,7 @@ module _ (g : Config) (e : ℕ → Event) where
       Arrived g e t i lo xs → Arrived g e (suc t) i lo (xs ++ (x ∷ []))
   arrived-snoc t i lo [] x l h f a = (t, l, (omega arith, h, λ u k k′ b. omega arith), tt)
   arrived-snoc t i lo (y ∷ ys) x l h f a =
-    (a .0, a .1, waits-later t i y (a .0) (f y (inl refl)) (a .2), arrived-snoc t i (suc (a .0)) ys x (a .2 .0) h (λ z k. f z (inr k)) (a .3))
+      (a .0, a .1, waits-later t i y (a .0) (f y (inl refl)) (a .2), arrived-snoc t i (suc (a .0)) ys x (a .2 .0) h (λ z k. f z (inr k)) (a .3))
 
   arrived-skip : (t i lo : ℕ) (a b : List Write) (x : Write) → Arrived g e t i lo (a ++ (x ∷ b)) → Arrived g e t i lo (a ++ b)
   arrived-skip t i lo [] b x h = low t i (suc (h .0)) lo b (omega (arith, h .1)) (h .3)
@@ -83,13 +81,13 @@ module _ (g : Config) (e : ℕ → Event) (run : Run g e) where
     where
       clash : (y : Write) → In y (a ++ b) → Applies g (e t) j (y .by) (y .num) (y .reg) → ⊥
       clash y k ay =
-        let u = only-applied g (e t) j x a b h j (y .by) (y .num) (y .reg) ay in
-        let inx : In x (world g e t .updates j) = rw (m .waits) (in-mid x a b) in
-        let iny : In y (world g e t .updates j) = rw (m .waits) (in-skip x y a b k) in
-        let hx = known g e run t .waiting j x inx .message in
-        let hy = known g e run t .waiting j y iny .message in
-        let s : y ≡ x = same-write g e run (hy .0) (hx .0) y x (hy .2) (hx .2) (u .1) (u .2) in
-        apart-mid j a b x y (rw (m .waits) at (inv g e run t t (omega arith) .rest .apart j)) k (ap (λ z. z .by) s, ap (λ z. z .mat (z .by) j) s)
+          let u = only-applied g (e t) j x a b h j (y .by) (y .num) (y .reg) ay in
+          let inx : In x (world g e t .updates j) = rw (m .waits) (in-mid x a b) in
+          let iny : In y (world g e t .updates j) = rw (m .waits) (in-skip x y a b k) in
+          let hx = known g e run t .waiting j x inx .message in
+          let hy = known g e run t .waiting j y iny .message in
+          let s : y ≡ x = same-write g e run (hy .0) (hx .0) y x (hy .2) (hx .2) (u .1) (u .2) in
+          apart-mid j a b x y (rw (m .waits) at (inv g e run t t (omega arith) .rest .apart j)) k (ap (λ z. z .by) s, ap (λ z. z .mat (z .by) j) s)
   step t (asked q) h m o i = arrived-keep g e t i 0 _ (λ y k. quiet-none g (e t) (asked q) h tt i (y .by) (y .num) (y .reg)) (o i)
   step t (queued q) h m o i = arrived-keep g e t i 0 _ (λ y k. quiet-none g (e t) (queued q) h tt i (y .by) (y .num) (y .reg)) (o i)
   step t (served q x a b) h m o i = arrived-keep g e t i 0 _ (λ y k. quiet-none g (e t) (served q x a b) h tt i (y .by) (y .num) (y .reg)) (o i)
@@ -109,8 +107,9 @@ module _ (g : Config) (e : ℕ → Event) (run : Run g e) where
   stays t (received j x) h m i y s l wt k = set-cases (λ u. In y u) (world g e t .updates) j i _ (λ p. in-front y (world g e t .updates j) (x ∷ []) (rw (← p) k)) (λ p. k)
   stays t (applied j x a b) h m i y s l wt k = set-cases (λ u. In y u) (world g e t .updates) j i _
       (λ p. elim (in-other x y a b (rw (m .waits) at (subst (λ i. In y (world g e t .updates i)) p k))) [
-          inl q ↦ absurd (wt .2 t l (omega arith) (by-applying x a b (subst (λ j. e t ≡ applied j x a b) (sym p) h) (ap (λ z. z .by) (sym q)) (ap (λ z. z .num) (sym q)) (ap (λ z. z .reg) (sym q))))
-        | inr q ↦ q ]) (λ p. k)
+        | inl q ↦ absurd (wt .2 t l (omega arith) (by-applying x a b (subst (λ j. e t ≡ applied j x a b) (sym p) h) (ap (λ z. z .by) (sym q)) (ap (λ z. z .num) (sym q)) (ap (λ z. z .reg) (sym q))))
+        | inr q ↦ q
+      ]) (λ p. k)
   stays t (asked q) h m i y s l wt k = k
   stays t (queued q) h m i y s l wt k = k
   stays t (served q x a b) h m i y s l wt k = k
@@ -132,9 +131,9 @@ module _ (g : Config) (e : ℕ → Event) (run : Run g e) where
   -- received once while it waits
   not-twice : (t i : ℕ) (y : Write) (s s′ : ℕ) → s < s′ → Waits g e t i y s → Waits g e t i y s′ → ⊥
   not-twice t i y s s′ l h h′ =
-    let m : May-receive g e s′ (world g e s′) i y = subst (λ v. May g e s′ (world g e s′) v) (h′ .1) (run s′) in
-    let k = waits-in s′ i y s (l, h .1, λ u a b c. h .2 u a (omega (arith, h′ .0)) c) in
-    all-in (λ z. ¬ ((z .by ≡ y .by) × (z .mat (z .by) i ≡ y .mat (y .by) i))) y (world g e s′ .updates i) (m .single) k (refl, refl)
+      let m : May-receive g e s′ (world g e s′) i y = subst (λ v. May g e s′ (world g e s′) v) (h′ .1) (run s′) in
+      let k = waits-in s′ i y s (l, h .1, λ u a b c. h .2 u a (omega (arith, h′ .0)) c) in
+      all-in (λ z. ¬ ((z .by ≡ y .by) × (z .mat (z .by) i ≡ y .mat (y .by) i))) y (world g e s′ .updates i) (m .single) k (refl, refl)
 
   pub waits-once : (t i : ℕ) (y : Write) (s s′ : ℕ) → Waits g e t i y s → Waits g e t i y s′ → s ≡ s′
   waits-once t i y s s′ h h′ = go (decLt s s′) (decLt s′ s)
@@ -151,6 +150,7 @@ module _ (g : Config) (e : ℕ → Event) (run : Run g e) where
     where
       r : (s : ℕ) × (0 ≤ s) × Waits g e t i x s × ((y : Write) → In y b → (s′ : ℕ) × (s < s′) × Waits g e t i y s′)
       r = arrived-at g e t i 0 a b x (rw h at (arrived t i))
+
       go : (y : Write) (s′ : ℕ) → s′ < r .0 → Waits g e t i y s′ → In y a ⊎ In y (x ∷ b) → In y a
       go y s′ l wt (inl k) = k
       go y s′ l wt (inr (inl k)) = let q = waits-once t i y s′ (r .0) wt (subst (λ z. Waits g e t i z (r .0)) (sym k) (r .2)) in absurd (omega arith)

@@ -1,10 +1,10 @@
 -- Causal consistency, in the words of the subject, over the events of a run.
 use mathlib.Core.Path.{_≡_}
 use mathlib.Core.Logic.{_⊎_, _↔_}
-use mathlib.Core.Bool.{Bool, true, false}
+use mathlib.Core.Bool.{true}
 use mathlib.Core.List.{List}
-use Prim.Native.Nat.{ℕ, zero, suc, _≤_, _<_}
-use Rattle.protocol.proofs.Model.{Config, Write, Ask, Waiting, Way, Event, World, wrote, reads, received, applied, world, Ready, In, Run}
+use Prim.Native.Nat.{ℕ, _<_}
+use Rattle.protocol.proofs.Model.{Config, Write, Way, Event, wrote, reads, received, applied, world, Ready, In, Run}
 
 -- the event is an operation of site i
 pub data Op-at (v : Event) (i : ℕ) : Type 0 where

@@ -1,14 +1,9 @@
 -- The clocks that the sites do not keep: how many writes of each site are causally past.
 use mathlib.Core.Path.{_≡_, refl, sym, _∙_, ap, subst}
-use mathlib.Core.Logic.{_⊎_, inl, inr}
-use mathlib.Core.Bool.{Bool, true, false, cond}
-use mathlib.Core.List.{List, [], _∷_, _++_}
-use mathlib.Core.Option.{Option, none, some}
-use Prim.Native.Nat.{ℕ, zero, suc, _+_, _-_, _≤_, _<_, max}
+use Prim.Native.Nat.{ℕ, zero, suc, _≤_, _<_, max}
 use native.Mathlib.Omega.{arith}
 use native.Mathlib.Decide.{le-ind, decLt, decLe, ℕ-discrete}
-use lib.Dec.{eqb}
-use Rattle.protocol.proofs.Model.{Config, Write, Ask, Waiting, Way, Event, World, set, wrote, reads, applied, refused, received, asked, queued, served, dropped, local, fetched, world, after, count-after, Ready, In, Run, May, May-write}
+use Rattle.protocol.proofs.Model.{Config, Write, Way, Event, World, set, wrote, reads, applied, refused, received, asked, queued, served, dropped, world, after, count-after, Run, May, May-write}
 use Rattle.protocol.proofs.ModelBasics.{set-cases, set-same, set-other}
 
 pub record Gh : Type 0 where
@@ -84,10 +79,12 @@ pub record Within (w : World) (h : Gh) : Type 0 where
 within-step : (g : Config) (v : Event) (w : World) (h : Gh) → Within w h →
     Within (after g v w) (record { clock = clock-after v h; of = of-after v h; reg = reg-after v h })
 within-step g refused w h o = record { own = o .own; most = o .most; past = o .past }
-within-step g (wrote x) w h o = 
-    record { own = λ i. let a = o .own i in let b = o .own (x .by) in grind arith;
+within-step g (wrote x) w h o =
+    record {
+      own = λ i. let a = o .own i in let b = o .own (x .by) in grind arith;
       most = λ i k. let a = o .most i k in let b = o .own (x .by) in let c = o .most (x .by) k in grind arith;
-      past = λ a b k. let u = o .past a b k in let f = o .own (x .by) in let d = o .most (x .by) k in grind arith }
+      past = λ a b k. let u = o .past a b k in let f = o .own (x .by) in let d = o .most (x .by) k in grind arith;
+    }
 within-step g (reads i x v) w h o = record { own = λ j. let a = o .own j in let b = o .own i in let c = o .past (x .by) (x .num) j in grind arith; most = λ j k. let a = o .most j k in let c = o .past (x .by) (x .num) k in let d = o .most i k in grind arith; past = o .past }
 within-step g (received i x) w h o = record { own = o .own; most = o .most; past = o .past }
 within-step g (applied i x a b) w h o = record { own = o .own; most = o .most; past = o .past }
@@ -123,11 +120,11 @@ module _ (g : Config) (e : ℕ → Event) (run : Run g e) where
 
   pub num-below : (p q : ℕ) (x y : Write) → e p ≡ wrote x → e q ≡ wrote y → x .by ≡ y .by → p < q → x .num < y .num
   num-below p q x y hp hq b l =
-    let a = count-wrote p x hp in
-    let c = may-write q y hq .number in
-    let d = count-mono g e (suc p) q (x .by) l in
-    let f : world g e q .count (x .by) ≡ world g e q .count (y .by) = ap (λ k. world g e q .count k) b in
-    omega arith
+      let a = count-wrote p x hp in
+      let c = may-write q y hq .number in
+      let d = count-mono g e (suc p) q (x .by) l in
+      let f : world g e q .count (x .by) ≡ world g e q .count (y .by) = ap (λ k. world g e q .count k) b in
+      omega arith
 
   pub label-once : (p q : ℕ) (x y : Write) → e p ≡ wrote x → e q ≡ wrote y → x .by ≡ y .by → x .num ≡ y .num → p ≡ q
   label-once p q x y hp hq b m = go (decLt p q) (decLt q p)
@@ -144,15 +141,16 @@ module _ (g : Config) (e : ℕ → Event) (run : Run g e) where
       go : Dec (p < t) → p < t
       go (yes h) = h
       go (no h) =
-        let a = may-write p x hp .number in
-        let c = count-mono g e t p (x .by) (omega arith) in omega arith
+          let a = may-write p x hp .number in
+          let c = count-mono g e t p (x .by) (omega arith) in omega arith
 
 keep : (v : Event) (h : Gh) (a b : ℕ) → ((y : Write) → v ≡ wrote y → y .by ≡ a → y .num ≡ b → ⊥) →
     ((k : ℕ) → of-after v h a b k ≡ h .of a b k) × (reg-after v h a b ≡ h .reg a b)
 keep refused h a b f = (λ k. refl, refl)
-keep (wrote y) h a b f =
-    (λ k. set-cases (λ u. u b k ≡ h .of a b k) (h .of) (y .by) a _ (λ p. set-cases (λ u. u k ≡ h .of a b k) (h .of (y .by)) (y .num) b _ (λ q. absurd (f y refl (sym p) (sym q))) (λ q. rw p refl)) (λ p. refl),
-     set-cases (λ u. u b ≡ h .reg a b) (h .reg) (y .by) a _ (λ p. set-cases (λ u. u ≡ h .reg a b) (h .reg (y .by)) (y .num) b _ (λ q. absurd (f y refl (sym p) (sym q))) (λ q. rw p refl)) (λ p. refl))
+keep (wrote y) h a b f = (
+  λ k. set-cases (λ u. u b k ≡ h .of a b k) (h .of) (y .by) a _ (λ p. set-cases (λ u. u k ≡ h .of a b k) (h .of (y .by)) (y .num) b _ (λ q. absurd (f y refl (sym p) (sym q))) (λ q. rw p refl)) (λ p. refl),
+  set-cases (λ u. u b ≡ h .reg a b) (h .reg) (y .by) a _ (λ p. set-cases (λ u. u ≡ h .reg a b) (h .reg (y .by)) (y .num) b _ (λ q. absurd (f y refl (sym p) (sym q))) (λ q. rw p refl)) (λ p. refl),
+)
 keep (reads i x v) h a b f = (λ k. refl, refl)
 keep (received i x) h a b f = (λ k. refl, refl)
 keep (applied i x c d) h a b f = (λ k. refl, refl)
@@ -175,13 +173,14 @@ module _ (g : Config) (e : ℕ → Event) (run : Run g e) where
     where
       Out : Type 0
       Out = ((k : ℕ) → ghost e (suc t) .of (x .by) (x .num) k ≡ ghost e (suc p) .clock (x .by) k) × (ghost e (suc t) .reg (x .by) (x .num) ≡ x .reg)
+
       go : Dec (p < t) → (p < t → ((k : ℕ) → ghost e t .of (x .by) (x .num) k ≡ ghost e (suc p) .clock (x .by) k) × (ghost e t .reg (x .by) (x .num) ≡ x .reg)) → Out
       go (yes l′) ih =
-        let kp = keep (e t) (ghost e t) (x .by) (x .num) (λ y hy b m. let q = label-once g e run p t x y h hy (sym b) (sym m) in omega arith) in
-        (λ k. kp .0 k ∙ ih l′ .0 k, kp .1 ∙ ih l′ .1)
+          let kp = keep (e t) (ghost e t) (x .by) (x .num) (λ y hy b m. let q = label-once g e run p t x y h hy (sym b) (sym m) in omega arith) in
+          (λ k. kp .0 k ∙ ih l′ .0 k, kp .1 ∙ ih l′ .1)
       go (no l′) ih =
-        let q : t ≡ p = omega arith in
-        rw (q, h) (λ k. grind arith, grind arith)
+          let q : t ≡ p = omega arith in
+          rw (q, h) (λ k. grind arith, grind arith)
 
 pub clock-read : (e : ℕ → Event) (q i : ℕ) (z : Write) (y : Way) → e q ≡ reads i z y → (k : ℕ) →
     ghost e (suc q) .clock i k ≡ max (ghost e q .clock i k) (ghost e q .of (z .by) (z .num) k)
@@ -205,8 +204,8 @@ module _ (g : Config) (e : ℕ → Event) (run : Run g e) where
       go : Dec (m ≤ world g e t .count k) → Dec (k ≡ x .by) → Written e (suc t) k m
       go (yes l′) d = let u = ih l′ in (u .0, u .1, omega (arith, u .2), u .3, u .4, u .5)
       go (no l′) (yes d) = let n = may-write g e run t x h .number in
-        let f : world g e t .count k ≡ world g e t .count (x .by) = ap (λ k. world g e t .count k) d in
-        (t, x, omega arith, h, sym d, grind arith)
+          let f : world g e t .count k ≡ world g e t .count (x .by) = ap (λ k. world g e t .count k) d in
+          (t, x, omega arith, h, sym d, grind arith)
       go (no l′) (no d) = absurd (l′ (subst (λ u. m ≤ u) (set-other (world g e t .count) (x .by) k _ d) l))
   written-step t (reads i x v) h k m ih l = let u = ih l in (u .0, u .1, omega (arith, u .2), u .3, u .4, u .5)
   written-step t (received i x) h k m ih l = let u = ih l in (u .0, u .1, omega (arith, u .2), u .3, u .4, u .5)

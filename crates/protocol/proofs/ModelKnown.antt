@@ -1,14 +1,11 @@
 -- Where what the sites hold came from.
-use mathlib.Core.Path.{_≡_, refl, sym, _∙_, ap, subst}
+use mathlib.Core.Path.{_≡_, refl, sym, subst}
 use mathlib.Core.Logic.{_⊎_, inl, inr}
 use mathlib.Core.Bool.{Bool, true, false, cond}
-use mathlib.Core.List.{List, [], _∷_, _++_}
-use mathlib.Core.Option.{Option, none, some}
-use Prim.Native.Nat.{ℕ, zero, suc, _+_, _-_, _≤_, _<_, max}
+use Prim.Native.Nat.{ℕ, zero, suc}
 use native.Mathlib.Omega.{arith}
-use lib.Dec.{eqb}
-use Rattle.protocol.proofs.Model.{Config, Write, Ask, Waiting, Way, Event, World, set, unwritten, opened, wrote, reads, applied, refused, received, asked, queued, served, dropped, local, fetched, world, after, Ready, In, All, Run, Earlier, May, May-write, May-apply, May-serve}
-use Rattle.protocol.proofs.ModelBasics.{set-cases, set-same, set-other, in-skip, in-mid, in-snoc}
+use Rattle.protocol.proofs.Model.{Config, Write, Waiting, Event, World, set, unwritten, wrote, reads, applied, refused, received, asked, queued, served, dropped, local, fetched, world, after, In, Run, Earlier, May}
+use Rattle.protocol.proofs.ModelBasics.{set-cases, in-skip, in-mid, in-snoc}
 
 abbrev pub Good : Config → (ℕ → Event) → ℕ → ℕ → Write → Type 0
 Good g e t r x = (x ≡ unwritten g r) ⊎ (Earlier e t (wrote x) × (x .reg ≡ r))
@@ -35,9 +32,11 @@ module _ (g : Config) (e : ℕ → Event) where
   held-later t i x h = record { message = later t (wrote x) (h .message); held = h .held; foreign = h .foreign }
 
   lift : (t : ℕ) (w : World) → Known g e t w → Known g e (suc t) w
-  lift t w o = record { copies = λ i r. good-later t r (w .copy i r) (o .copies i r);
+  lift t w o = record {
+    copies = λ i r. good-later t r (w .copy i r) (o .copies i r);
     waiting = λ i x h. held-later t i x (o .waiting i x h);
-    asking = λ h q k. (later t (asked q) (o .asking h q k .0), o .asking h q k .1) }
+    asking = λ h q k. (later t (asked q) (o .asking h q k .0), o .asking h q k .1);
+  }
 
   put-copy : (t i r : ℕ) (w : World) (x : Write) → ((i r : ℕ) → Good g e t r (w .copy i r)) → Earlier e t (wrote x) →
       (j s : ℕ) → Good g e t s (set (w .copy) i (set (w .copy i) (x .reg) x) j s)
@@ -54,25 +53,40 @@ module _ (g : Config) (e : ℕ → Event) where
       go false = lift t w o .copies
   known-step t w (reads i x local) h m o = let n = lift t w o in record { copies = n .copies; waiting = n .waiting; asking = n .asking }
   known-step t w (reads i x (fetched a)) h m o = let n = lift t w o in record { copies = n .copies; waiting = n .waiting; asking = n .asking }
-  known-step t w (received i x) h m o = let n = lift t w o in record { copies = n .copies; asking = n .asking;
-      waiting = λ j y. set-cases (λ u. In y u → Held g e (suc t) j y) (w .updates) i j _
-        (λ p k. elim (in-snoc x y (w .updates i) k) [ inl k ↦ subst (λ j. Held g e (suc t) j y) (sym p) (n .waiting i y k)
-          | inr k ↦ rw (k, p) (record { message = later t (wrote x) (m .message); held = m .held; foreign = m .foreign }) ])
-        (λ p. n .waiting j y) }
+  known-step t w (received i x) h m o = let n = lift t w o in record {
+    copies = n .copies;
+    asking = n .asking;
+    waiting = λ j y. set-cases (λ u. In y u → Held g e (suc t) j y) (w .updates) i j _
+        (λ p k. elim (in-snoc x y (w .updates i) k) [
+          | inl k ↦ subst (λ j. Held g e (suc t) j y) (sym p) (n .waiting i y k)
+          | inr k ↦ rw (k, p) (record { message = later t (wrote x) (m .message); held = m .held; foreign = m .foreign })
+        ])
+        (λ p. n .waiting j y);
+  }
   known-step t w (applied i x a b) h m o = let n = lift t w o in
-    let hx = n .waiting i x (rw (m .waits) (in-mid x a b)) in record { asking = n .asking;
-      copies = put-copy (suc t) i 0 w x (n .copies) (hx .message);
-      waiting = λ j y. set-cases (λ u. In y u → Held g e (suc t) j y) (w .updates) i j _
-        (λ p k. rw p (n .waiting i y (rw (m .waits) (in-skip x y a b k)))) (λ p. n .waiting j y) }
+      let hx = n .waiting i x (rw (m .waits) (in-mid x a b)) in record {
+        asking = n .asking;
+        copies = put-copy (suc t) i 0 w x (n .copies) (hx .message);
+        waiting = λ j y. set-cases (λ u. In y u → Held g e (suc t) j y) (w .updates) i j _
+            (λ p k. rw p (n .waiting i y (rw (m .waits) (in-skip x y a b k)))) (λ p. n .waiting j y);
+      }
   known-step t w (asked q) h m o = let n = lift t w o in record { copies = n .copies; waiting = n .waiting; asking = n .asking }
-  known-step t w (queued q) h m o = let n = lift t w o in record { copies = n .copies; waiting = n .waiting;
-      asking = λ j y. set-cases (λ u. In y u → Earlier e (suc t) (asked y) × (y .ask .home ≡ j)) (w .asks) (q .ask .home) j _
-        (λ p k. elim (in-snoc q y (w .asks (q .ask .home)) k) [ inl k ↦ rw p (n .asking (q .ask .home) y k)
-          | inr k ↦ rw (k, p) (later t (asked q) (m .message), refl) ])
-        (λ p. n .asking j y) }
-  known-step t w (served q x a b) h m o = let n = lift t w o in record { copies = n .copies; waiting = n .waiting;
-      asking = λ j y. set-cases (λ u. In y u → Earlier e (suc t) (asked y) × (y .ask .home ≡ j)) (w .asks) (q .ask .home) j _
-        (λ p k. rw p (n .asking (q .ask .home) y (rw (m .waits) (in-skip q y a b k)))) (λ p. n .asking j y) }
+  known-step t w (queued q) h m o = let n = lift t w o in record {
+    copies = n .copies;
+    waiting = n .waiting;
+    asking = λ j y. set-cases (λ u. In y u → Earlier e (suc t) (asked y) × (y .ask .home ≡ j)) (w .asks) (q .ask .home) j _
+        (λ p k. elim (in-snoc q y (w .asks (q .ask .home)) k) [
+          | inl k ↦ rw p (n .asking (q .ask .home) y k)
+          | inr k ↦ rw (k, p) (later t (asked q) (m .message), refl)
+        ])
+        (λ p. n .asking j y);
+  }
+  known-step t w (served q x a b) h m o = let n = lift t w o in record {
+    copies = n .copies;
+    waiting = n .waiting;
+    asking = λ j y. set-cases (λ u. In y u → Earlier e (suc t) (asked y) × (y .ask .home ≡ j)) (w .asks) (q .ask .home) j _
+        (λ p k. rw p (n .asking (q .ask .home) y (rw (m .waits) (in-skip q y a b k)))) (λ p. n .asking j y);
+  }
   known-step t w (dropped i) h m o = let n = lift t w o in record { copies = n .copies; waiting = n .waiting; asking = n .asking }
 
   pub known : Run g e → (t : ℕ) → Known g e t (world g e t)

@@ -1,18 +1,15 @@
 -- Causal order and the clocks: one is read off the other.
 use mathlib.Core.Path.{_≡_, refl, sym, _∙_, ap, subst}
 use mathlib.Core.Logic.{_⊎_, inl, inr}
-use mathlib.Core.Bool.{Bool, true, false, cond}
-use mathlib.Core.List.{List, [], _∷_, _++_}
-use mathlib.Core.Option.{Option, none, some}
-use Prim.Native.Nat.{ℕ, zero, suc, _+_, _-_, _≤_, _<_, max}
+use mathlib.Core.List.{List}
+use Prim.Native.Nat.{ℕ, zero, suc, _≤_, _<_, max}
 use native.Mathlib.Omega.{arith}
 use native.Mathlib.Decide.{decLe, decLt}
-use lib.Dec.{eqb}
-use Rattle.protocol.proofs.Model.{Config, Write, Ask, Waiting, Way, Event, World, set, unwritten, wrote, reads, applied, refused, received, asked, queued, served, dropped, local, fetched, world, after, In, All, Run, Earlier, May, May-write, May-read, May-take, May-serve}
+use Rattle.protocol.proofs.Model.{Config, Write, Ask, Waiting, Way, Event, wrote, reads, applied, refused, received, asked, queued, served, dropped, local, fetched, world, Run, May, May-read, May-take, May-serve}
 use Rattle.protocol.proofs.ModelCausal.{Op-at, writing, reading, Before, earlier, answers, chain}
-use Rattle.protocol.proofs.ModelBasics.{set-cases, set-same, set-other, in-skip, in-mid, in-snoc}
-use Rattle.protocol.proofs.ModelClocks.{Gh, ghost, clock-after, of-after, within, count-mono, clock-mono, may-write, count-wrote, num-below, label-once, made-by, of-start, known-tables, clock-read}
-use Rattle.protocol.proofs.ModelKnown.{Good, Held, Known, known}
+use Rattle.protocol.proofs.ModelBasics.{set-cases}
+use Rattle.protocol.proofs.ModelClocks.{ghost, clock-after, within, clock-mono, may-write, count-wrote, label-once, of-start, known-tables, clock-read}
+use Rattle.protocol.proofs.ModelKnown.{Good, known}
 
 abbrev pub site : Event → ℕ
 site refused = 0
@@ -54,11 +51,11 @@ module _ (g : Config) (e : ℕ → Event) (run : Run g e) where
   pub read-good : (t i : ℕ) (x : Write) (v : Way) → e t ≡ reads i x v → Good g e t (x .reg) x
   read-good t i x local h = subst (λ y. Good g e t (x .reg) y) (sym (may-read t i x h .answer)) (known g e run t .copies i (x .reg))
   read-good t i x (fetched a) h =
-    let m = may-take t i x a h in
-    let s = m .reply .0 in
-    let gd = served-good s (record { ask = a; col = m .col }) x (m .front) (m .back) (m .reply .2) in
-    let gl = good-later g e s t (a .reg) x (omega (arith, m .reply .1)) gd in
-    subst (λ r. Good g e t r x) (sym (good-reg g e t (a .reg) x gl)) gl
+      let m = may-take t i x a h in
+      let s = m .reply .0 in
+      let gd = served-good s (record { ask = a; col = m .col }) x (m .front) (m .back) (m .reply .2) in
+      let gl = good-later g e s t (a .reg) x (omega (arith, m .reply .1)) gd in
+      subst (λ r. Good g e t r x) (sym (good-reg g e t (a .reg) x gl)) gl
 
   pub before-time : {p q : ℕ} → Before e p q → p < q
   before-time (earlier i op oq l) = l
@@ -75,10 +72,10 @@ module _ (g : Config) (e : ℕ → Event) (run : Run g e) where
   before-clock {p} {q} (answers x i z y hp hq b m) k =
       let l = before-time (answers x i z y hp hq b m) in
       let c : ghost e q .of (z .by) (z .num) k ≡ ghost e (suc p) .clock (x .by) k =
-          ap (λ u. ghost e q .of u (z .num) k) b ∙ ap (λ u. ghost e q .of (x .by) u k) m ∙ known-tables g e run q p x hp l .0 k in
+      ap (λ u. ghost e q .of u (z .num) k) b ∙ ap (λ u. ghost e q .of (x .by) u k) m ∙ known-tables g e run q p x hp l .0 k in
       let d = clock-read e q i z y hq k in
       subst (λ v. ghost e (suc p) .clock (site v) k ≤ ghost e (suc q) .clock (site (e q)) k) (sym hp)
-        (subst (λ v. ghost e (suc p) .clock (x .by) k ≤ ghost e (suc q) .clock (site v) k) (sym hq) (omega arith))
+      (subst (λ v. ghost e (suc p) .clock (x .by) k ≤ ghost e (suc q) .clock (site v) k) (sym hq) (omega arith))
   before-clock (chain a b) k = let c = before-clock a k in let d = before-clock b k in omega arith
 
   pub own-num : (p : ℕ) (x : Write) → e p ≡ wrote x → ghost e (suc p) .clock (x .by) (x .by) ≡ x .num
@@ -86,8 +83,8 @@ module _ (g : Config) (e : ℕ → Event) (run : Run g e) where
 
   pub before-num : (p q : ℕ) (x : Write) → e p ≡ wrote x → Before e p q → x .num ≤ ghost e (suc q) .clock (site (e q)) (x .by)
   before-num p q x h b =
-    let a = before-clock b (x .by) in
-    let c : ghost e (suc p) .clock (site (e p)) (x .by) ≡ x .num = rw h (own-num p x h) in omega arith
+      let a = before-clock b (x .by) in
+      let c : ghost e (suc p) .clock (site (e p)) (x .by) ≡ x .num = rw h (own-num p x h) in omega arith
 
   -- and back: what a clock counts is causally past
   abbrev Found : ℕ → ℕ → ℕ → Type 0
@@ -114,18 +111,18 @@ module _ (g : Config) (e : ℕ → Event) (run : Run g e) where
   found-step t refused h i p x hp ih l = found-later t i p (ih t i (omega arith) l)
   found-step t (wrote y) h i p x hp ih l = set-cases (λ u. x .num ≤ u (x .by) → Found (suc t) i p) (ghost e t .clock) (y .by) i _
       (λ ei. set-cases (λ u. x .num ≤ u → Found (suc t) i p) (ghost e t .clock (y .by)) (y .by) (x .by) _
-        (λ eb l. (t, omega arith, writing y h (sym ei), go eb l (decLe (x .num) (ghost e t .clock (y .by) (y .by)))))
-        (λ nb l. rw ei (found-later t (y .by) p (ih t (y .by) (omega arith) l))))
+      (λ eb l. (t, omega arith, writing y h (sym ei), go eb l (decLe (x .num) (ghost e t .clock (y .by) (y .by)))))
+      (λ nb l. rw ei (found-later t (y .by) p (ih t (y .by) (omega arith) l))))
       (λ ni l. found-later t i p (ih t i (omega arith) l)) l
     where
       go : x .by ≡ y .by → x .num ≤ suc (ghost e t .clock (y .by) (y .by)) → Dec (x .num ≤ ghost e t .clock (y .by) (y .by)) → (p ≡ t) ⊎ Before e p t
       go eb l (yes l′) =
-        let f = ih t (y .by) (omega arith) (subst (λ k. x .num ≤ ghost e t .clock (y .by) k) (sym eb) l′) in
-        upto p t y h (found-later t (y .by) p f)
+          let f = ih t (y .by) (omega arith) (subst (λ k. x .num ≤ ghost e t .clock (y .by) k) (sym eb) l′) in
+          upto p t y h (found-later t (y .by) p f)
       go eb l (no l′) =
-        let a = may-write g e run t y h .number in
-        let c = within g e t .own (y .by) in
-        inl (label-once g e run p t x y hp h eb (omega arith))
+          let a = may-write g e run t y h .number in
+          let c = within g e t .own (y .by) in
+          inl (label-once g e run p t x y hp h eb (omega arith))
   found-step t (reads j z v) h i p x hp ih l = set-cases (λ u. x .num ≤ u (x .by) → Found (suc t) i p) (ghost e t .clock) j i _
       (λ ei l. rw ei (go (decLe (x .num) (ghost e t .clock j (x .by))) (read-good t j z v h) l))
       (λ ni l. found-later t i p (ih t i (omega arith) l)) l
@@ -133,15 +130,15 @@ module _ (g : Config) (e : ℕ → Event) (run : Run g e) where
       go : Dec (x .num ≤ ghost e t .clock j (x .by)) → Good g e t (z .reg) z → x .num ≤ max (ghost e t .clock j (x .by)) (ghost e t .of (z .by) (z .num) (x .by)) → Found (suc t) j p
       go (yes l′) gz l = found-later t j p (ih t j (omega arith) l′)
       go (no l′) (inl u) l =
-        let a = of-start g e run t (z .by) (x .by) in
-        let b : z .num ≡ 0 = ap (λ y. y .num) u in
-        let c : ghost e t .of (z .by) (z .num) (x .by) ≡ ghost e t .of (z .by) 0 (x .by) = ap (λ m. ghost e t .of (z .by) m (x .by)) b in
-        let d = may-write g e run p x hp .number in absurd (omega arith)
+          let a = of-start g e run t (z .by) (x .by) in
+          let b : z .num ≡ 0 = ap (λ y. y .num) u in
+          let c : ghost e t .of (z .by) (z .num) (x .by) ≡ ghost e t .of (z .by) 0 (x .by) = ap (λ m. ghost e t .of (z .by) m (x .by)) b in
+          let d = may-write g e run p x hp .number in absurd (omega arith)
       go (no l′) (inr u) l =
-        let p′ = u .0 .0 in
-        let a = known-tables g e run t p′ z (u .0 .2) (u .0 .1) .0 (x .by) in
-        let f = ih (suc p′) (z .by) (u .0 .1) (omega arith) in
-        (t, omega arith, reading z v h, inr (extend p p′ t z (u .0 .2) f (answers z j z v (u .0 .2) h refl refl)))
+          let p′ = u .0 .0 in
+          let a = known-tables g e run t p′ z (u .0 .2) (u .0 .1) .0 (x .by) in
+          let f = ih (suc p′) (z .by) (u .0 .1) (omega arith) in
+          (t, omega arith, reading z v h, inr (extend p p′ t z (u .0 .2) f (answers z j z v (u .0 .2) h refl refl)))
   found-step t (received j y) h i p x hp ih l = found-later t i p (ih t i (omega arith) l)
   found-step t (applied j y a b) h i p x hp ih l = found-later t i p (ih t i (omega arith) l)
   found-step t (asked q) h i p x hp ih l = found-later t i p (ih t i (omega arith) l)

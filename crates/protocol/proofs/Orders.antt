@@ -136,28 +136,36 @@ module _ {V : Type 0} (k : Kind V) (kl : Lawful k) (p : Placed) (law : Lawful-pl
   pub event-past : (t i s : ℕ) → causal.Past-applied g e t i s → Past-applied p h t i s
   event-past t i s a o y m r v x b c =
       let q = write-event k kl p law w cs f o y m r v x in
-      let d = a o (q .write) (q .event) (subst (λ r. p .held r i ≡ true) (sym (q .register)) b) (before-event c) in
-      (d .0, d .1, event-applies (d .0) i y m (q .write .reg) (subst (λ z. causal.Applies g (e (d .0)) i y z (q .write .reg)) (q .number)
-        (subst (λ z. causal.Applies g (e (d .0)) i z (q .write .num) (q .write .reg)) (q .by) (d .2))))
+      let d = a o (q .write) (q .event) (subst (λ r. p .held r i ≡ true) (sym (q .register)) b) (before-event c) in (
+        d .0,
+        d .1,
+        event-applies (d .0) i y m (q .write .reg) (subst (λ z. causal.Applies g (e (d .0)) i y z (q .write .reg)) (q .number)
+            (subst (λ z. causal.Applies g (e (d .0)) i z (q .write .num) (q .write .reg)) (q .by) (d .2))),
+      )
 
   -- waiting
 
   pub waits-event : (t i s u : ℕ) (x : Write) → e s ≡ wrote x → Waits p h t i s u → causal.Waits g e t i x u
   waits-event t i s u x q a =
       let o = event-write k kl p law w cs f s x q in
-      let r = a .receives in
-      (a .earlier, f .as-that-write u i s (r .bytes) x _ (r .step) (r .write .step) (r .sent _ (r .write .step)) q,
-        λ y lo hi c. a .not-since y (x .by) (x .num) (x .reg) (o .0) (o .1) lo hi (event-applies y i (x .by) (x .num) (x .reg) c))
+      let r = a .receives in (
+        a .earlier,
+        f .as-that-write u i s (r .bytes) x _ (r .step) (r .write .step) (r .sent _ (r .write .step)) q,
+        λ y lo hi c. a .not-since y (x .by) (x .num) (x .reg) (o .0) (o .1) lo hi (event-applies y i (x .by) (x .num) (x .reg) c),
+      )
 
   pub event-waits : (t i u : ℕ) (x : Write) → causal.Waits g e t i x u → (s : ℕ) × (e s ≡ wrote x) × Waits p h t i s u
   event-waits t i u x a =
       let b = f .from-a-write u i x (a .1) in
-      let o = event-write k kl p law w cs f (b .0) x (b .3) in
-      (b .0, b .3, record {
-        earlier = a .0;
-        receives = record { bytes = b .1; step = b .4; sender = x .by; number = x .num; register = x .reg; value = o .0; write = o .1; sent = b .5 };
-        not-since = λ y j m r v z lo hi c.
-          let l = writes-alike k kl p law w cs f (b .0) j (x .by) m (x .num) r (x .reg) v (o .0) z (o .1) in
-          let d = write-applied y i (b .0) j m r v z c in
-          a .2 y lo hi (subst (λ r. causal.Applies g (e y) i (x .by) (x .num) r) (l .2) (subst (λ m. causal.Applies g (e y) i (x .by) m r) (l .1) (subst (λ j. causal.Applies g (e y) i j m r) (l .0) d)));
-      })
+      let o = event-write k kl p law w cs f (b .0) x (b .3) in (
+        b .0,
+        b .3,
+        record {
+          earlier = a .0;
+          receives = record { bytes = b .1; step = b .4; sender = x .by; number = x .num; register = x .reg; value = o .0; write = o .1; sent = b .5 };
+          not-since = λ y j m r v z lo hi c.
+              let l = writes-alike k kl p law w cs f (b .0) j (x .by) m (x .num) r (x .reg) v (o .0) z (o .1) in
+              let d = write-applied y i (b .0) j m r v z c in
+              a .2 y lo hi (subst (λ r. causal.Applies g (e y) i (x .by) (x .num) r) (l .2) (subst (λ m. causal.Applies g (e y) i (x .by) m r) (l .1) (subst (λ j. causal.Applies g (e y) i j m r) (l .0) d)));
+        },
+      )

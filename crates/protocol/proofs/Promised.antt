@@ -89,17 +89,18 @@ module _ {V : Type 0} (k : Kind V) (kl : Lawful k) (p : Placed) (law : Lawful-pl
       let o = write-event k kl p law w cs f s a m r v x in
       let d = write-applied k kl p law w cs f t i s a m r v x c in
       event-past k kl p law w cs f t i s (consistent .in-order t i s r (o .write) (o .event)
-        (subst (λ j. causal.Applies g (e t) i (o .write .by) j r) (sym (o .number)) (subst (λ j. causal.Applies g (e t) i j m r) (sym (o .by)) d)))
+      (subst (λ j. causal.Applies g (e t) i (o .write .by) j r) (sym (o .number)) (subst (λ j. causal.Applies g (e t) i j m r) (sym (o .by)) d)))
 
   answers : Answers-a-write k p h
   answers t i r v label a =
       let o = read-event k kl p law w cs f t i r v label a in
       elim (consistent .reads-a-write t i (o .write) (o .way) (o .event)) [
-        inl u ↦ inl (labelled-none label (o .write .by) (o .write .num) (o .labelled) (u .0), same-value k kl v (k .start) (sym (o .value) ∙ u .1))
-      | inr u ↦
-          let n = numbered k kl p law w cs f (u .0) (u .1) (u .3) in
-          let l = labelled-some label (o .write .by) (o .write .num) (o .labelled) (omega (arith, u .5)) in
-          inr (u .0, o .write .by, o .write .num, u .2, l, named (u .0) (o .write .by) (o .write .num) r v (u .1) (u .3) (u .4) (u .5) (u .6 ∙ o .register) (u .7 ∙ o .value)) ]
+        | inl u ↦ inl (labelled-none label (o .write .by) (o .write .num) (o .labelled) (u .0), same-value k kl v (k .start) (sym (o .value) ∙ u .1))
+        | inr u ↦
+            let n = numbered k kl p law w cs f (u .0) (u .1) (u .3) in
+            let l = labelled-some label (o .write .by) (o .write .num) (o .labelled) (omega (arith, u .5)) in
+            inr (u .0, o .write .by, o .write .num, u .2, l, named (u .0) (o .write .by) (o .write .num) r v (u .1) (u .3) (u .4) (u .5) (u .6 ∙ o .register) (u .7 ∙ o .value))
+      ]
 
   fresh : Never-overtaken k p h
   fresh t i r s a m v u label rd wr bf fb =
@@ -107,20 +108,25 @@ module _ {V : Type 0} (k : Kind V) (kl : Lawful k) (p : Placed) (law : Lawful-pl
       let q = write-event k kl p law w cs f s a m r u wr in
       consistent .never-stale t i (o .write) (o .way) (o .event) s (q .write) (q .event) (q .register ∙ sym (o .register)) (before-event k kl p law w cs f bf)
       (elim fb [
-        inl n ↦ inl (none-labelled label (o .write .by) (o .write .num) (o .labelled) n)
-      | inr y ↦
-          let z = write-event k kl p law w cs f (y .0) (y .1) (y .2) (y .3) (y .4) (y .6) in
-          let l = some-labelled label (o .write .by) (o .write .num) (y .1) (y .2) (o .labelled) (y .5) in
-          inr (y .0, z .write, z .event, z .by ∙ sym (l .0), z .number ∙ sym (l .1), before-event k kl p law w cs f (y .7)) ])
+        | inl n ↦ inl (none-labelled label (o .write .by) (o .write .num) (o .labelled) n)
+        | inr y ↦
+            let z = write-event k kl p law w cs f (y .0) (y .1) (y .2) (y .3) (y .4) (y .6) in
+            let l = some-labelled label (o .write .by) (o .write .num) (y .1) (y .2) (o .labelled) (y .5) in
+            inr (y .0, z .write, z .event, z .by ∙ sym (l .0), z .number ∙ sym (l .1), before-event k kl p law w cs f (y .7))
+      ])
 
   last : Local-reads-answer-the-last k p h
   last t i r z v label st =
       let b = local-read k kl p law w cs f t i r z v label st in
       let o = b .0 in
       elim (consistent .reads-last t i (o .write) (b .1)) [
-        inl u ↦ inl (labelled-none label (o .write .by) (o .write .num) (o .labelled) (u .0), same-value k kl v (k .start) (sym (o .value) ∙ u .1),
-          λ s x y m v′ l wr c. u .2 s y m l (subst (λ r. causal.Applies g (e s) i y m r) (sym (o .register)) (write-applied k kl p law w cs f s i x y m r v′ wr c)))
-      | inr u ↦ some-last t i r z v label o (answers t i r v label (local z st)) u ]
+        | inl u ↦ inl (
+          labelled-none label (o .write .by) (o .write .num) (o .labelled) (u .0),
+          same-value k kl v (k .start) (sym (o .value) ∙ u .1),
+          λ s x y m v′ l wr c. u .2 s y m l (subst (λ r. causal.Applies g (e s) i y m r) (sym (o .register)) (write-applied k kl p law w cs f s i x y m r v′ wr c)),
+        )
+        | inr u ↦ some-last t i r z v label o (answers t i r v label (local z st)) u
+      ]
     where
       some-last : (t i r : ℕ) (z : Session) (v : V) (label : Option (ℕ × ℕ)) (o : As-read k kl p law w cs f t i r v label) →
           ((label ≡ None) × (v ≡ k .start)) ⊎ ((s : ℕ) × (w : ℕ) × (m : ℕ) × (s < t) × (label ≡ Some (w, m)) × Writes h s w m r v) →
@@ -133,15 +139,20 @@ module _ {V : Type 0} (k : Kind V) (kl : Lawful k) (p : Placed) (law : Lawful-pl
           absurd (omega (arith, a .5))
       some-last t i r z v label o (inr n) u =
           let l = some-labelled label (o .write .by) (o .write .num) (n .1) (n .2) (o .labelled) (n .4) in
-          inr (n .1, n .2, n .4, record {
-            writing = n .0;
-            write = n .5;
-            when = u .0;
-            earlier = u .1;
-            applies = event-applies k kl p law w cs f (u .0) i (n .1) (n .2) (o .write .reg) (subst (λ m. causal.Applies g (e (u .0)) i (n .1) m (o .write .reg)) (l .1)
-              (subst (λ a. causal.Applies g (e (u .0)) i a (o .write .num) (o .write .reg)) (l .0) (u .2)));
-            latest = λ s x y m v′ lo hi wr c. u .3 s y m lo hi (subst (λ r. causal.Applies g (e s) i y m r) (sym (o .register)) (write-applied k kl p law w cs f s i x y m r v′ wr c));
-          })
+          inr (
+            n .1,
+            n .2,
+            n .4,
+            record {
+              writing = n .0;
+              write = n .5;
+              when = u .0;
+              earlier = u .1;
+              applies = event-applies k kl p law w cs f (u .0) i (n .1) (n .2) (o .write .reg) (subst (λ m. causal.Applies g (e (u .0)) i (n .1) m (o .write .reg)) (l .1)
+                  (subst (λ a. causal.Applies g (e (u .0)) i a (o .write .num) (o .write .reg)) (l .0) (u .2)));
+              latest = λ s x y m v′ lo hi wr c. u .3 s y m lo hi (subst (λ r. causal.Applies g (e s) i y m r) (sym (o .register)) (write-applied k kl p law w cs f s i x y m r v′ wr c));
+            },
+          )
 
   pub applied-in-causal-order : Applied-in-causal-order k p (history k p w cs)
   applied-in-causal-order = record { bound = bound; once = once; ordered = ordered; last = last }
@@ -165,7 +176,7 @@ module _ {V : Type 0} (k : Kind V) (kl : Lawful k) (p : Placed) (law : Lawful-pl
   ready-model t i u l a =
       ready-there k g (p .sites) u i (S t i .applied) (model.world g e t .applies i) eight l (λ j b. f .applies t i j l b)
       (subst (λ n. nowhere-below n (S t i .applied) (update-need u n i) ≡ true) (f .sites-is t i l)
-        (subst (λ j. nowhere-below (S t i .sites) (S t i .applied) (update-need u (S t i .sites) j) ≡ true) (f .site-is t i l) a))
+      (subst (λ j. nowhere-below (S t i .sites) (S t i .applied) (update-need u (S t i .sites) j) ≡ true) (f .site-is t i l) a))
 
   model-ready : (t i : ℕ) (u : WaitingUpdate) → i < p .sites → model.Ready g (model.world g e t) i (update-view k (p .sites) u) → ready-update (S t i) u ≡ true
   model-ready t i u l a =
@@ -217,8 +228,8 @@ module _ {V : Type 0} (k : Kind V) (kl : Lawful k) (p : Placed) (law : Lawful-pl
         same-register = o .register;
         due = (a .2, event-past k kl p law w cs f t i (a .0) r);
         oldest = λ s u l d.
-          let y = due-there t i s u d in
-          all-in (λ y. ¬ (model.Ready g (model.world g e t) i y)) (y .write) (o .front) (m .oldest) (b .2 (y .write) u l (y .waits)) (y .ready);
+            let y = due-there t i s u d in
+            all-in (λ y. ¬ (model.Ready g (model.world g e t) i y)) (y .write) (o .front) (m .oldest) (b .2 (y .write) u l (y .waits)) (y .ready);
       }
 
   -- nothing is found only where nothing is ready
@@ -234,9 +245,10 @@ module _ {V : Type 0} (k : Kind V) (kl : Lawful k) (p : Placed) (law : Lawful-pl
   found-roomy t i j l q =
       let u = getD (S t i .updates) j no-update in
       let r = f .roomy t i u l (found-in (ready-update (S t i)) (S t i .updates) (S t i .updates-waiting) j no-update q) in
-      let b : ltb (getD (S t i .applied) (u .sender) 0) limit ≡ true = lt-holds (getD (S t i .applied) (u .sender) 0) limit r in
-      (record { label = (u .sender, u .number); register = u .register },
-        ap (λ b. need b CountAtLimit (S t i) [] (record { answer = Ok (record { label = (u .sender, u .number); register = u .register }); after = after-apply (S t i) j u; place = [] }) .answer) b)
+      let b : ltb (getD (S t i .applied) (u .sender) 0) limit ≡ true = lt-holds (getD (S t i .applied) (u .sender) 0) limit r in (
+        record { label = (u .sender, u .number); register = u .register },
+        ap (λ b. need b CountAtLimit (S t i) [] (record { answer = Ok (record { label = (u .sender, u .number); register = u .register }); after = after-apply (S t i) j u; place = [] }) .answer) b,
+      )
 
   -- how an applying ends, at a step
   ends : (t i : ℕ) (x : Step V) → Step-at h t x → x .call ≡ apply i →
@@ -248,9 +260,10 @@ module _ {V : Type 0} (k : Kind V) (kl : Lawful k) (p : Placed) (law : Lawful-pl
       let l : i < p .sites = subst (λ c. site-of c < p .sites) q (f .sited t x st) in
       let told : Result Applied Fault → Answer V = λ r. told-so (λ a _. applied a) r (apply-rule k p (S t i) .place) in
       elim (apply-ends k p (S t i)) [
-        inl u ↦ inl (a ∙ ap told u)
-      | inr (inl u) ↦ inr (inl (u .0, a ∙ ap told (u .1)))
-      | inr (inr u) ↦ let b = found-roomy t i (u .0) l (u .1) in inr (inr (b .0, a ∙ ap told (u .2 ∙ b .1))) ]
+        | inl u ↦ inl (a ∙ ap told u)
+        | inr (inl u) ↦ inr (inl (u .0, a ∙ ap told (u .1)))
+        | inr (inr u) ↦ let b = found-roomy t i (u .0) l (u .1) in inr (inr (b .0, a ∙ ap told (u .2 ∙ b .1)))
+      ]
 
   none : None-is-due k p h
   none t i st s u d = go (ends t i _ st refl)

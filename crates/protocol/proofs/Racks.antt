@@ -1,34 +1,28 @@
 -- A rack and the model's world stay linked: at the opening, and from call to call.
 use mathlib.Core.Path.{_≡_, refl, sym, ap, ap₂, subst, _∙_}
-use mathlib.Core.Bool.{Bool, true, false, cond}
-use mathlib.Core.List.{List, [], _∷_, _++_, map}
-use mathlib.Core.Logic.{_⊎_, inl, inr}
-use mathlib.Core.Option.{none, some}
-use Prim.Native.Nat.{ℕ, zero, suc, _+_, _*_, _<_, _≤_}
-use native.Mathlib.Decide.{decLt, ℕ-discrete}
+use mathlib.Core.List.{List}
+use Prim.Native.Nat.{ℕ, zero, suc, _+_, _*_, _<_}
+use native.Mathlib.Decide.{decLt}
 use native.Mathlib.Omega.{arith}
-use lib.ListN.{length, take, drop, getD, set, replicate}
-use Rattle.std.proofs.shelf.Lists.{length-set, length-replicate, getD-replicate, getD-set-same, getD-set-other}
-use Rattle.std.specs.declared.option.Option.{Option}
+use lib.ListN.{length, getD, set, replicate}
+use Rattle.std.proofs.shelf.Lists.{length-set, length-replicate, getD-replicate}
 use Rattle.std.specs.declared.option.Option.the-variants.{Some, None}
-use Rattle.clocks.specs.Counts.{limit, within}
-use Rattle.clocks.specs.Matrices.{entry}
 use Rattle.clocks.proofs.CountLaws.{zeros-at, within-from}
 use Rattle.clocks.proofs.MatrixLaws.{zero-entry}
 use Rattle.fields.specs.Bits.{num}
-use Rattle.values.specs.Kinds.{Kind, Lawful, taken}
+use Rattle.values.specs.Kinds.{Kind, Lawful}
 use Rattle.values.specs.declared.fault.Fault.{Fault}
 use Rattle.std.specs.declared.result.Result.{Result}
 use Rattle.std.specs.declared.result.Result.the-variants.{Ok, Err}
-use Rattle.protocol.specs.States.{Placed, Lawful-placed, State, Session, Outcome}
-use Rattle.protocol.specs.Words.{waiting-updates, waiting-fetches, copy-of, no-copy, plain-bytes}
+use Rattle.protocol.specs.States.{Placed, Lawful-placed, State}
+use Rattle.protocol.specs.Words.{no-copy}
 use Rattle.protocol.specs.Opening.{unwritten, opened}
-use Rattle.protocol.specs.Applying.{ready-update, no-update, apply-rule}
-use Rattle.protocol.specs.Serving.{ready-fetch, no-fetch, serve-rule}
+use Rattle.protocol.specs.Applying.{no-update, apply-rule}
+use Rattle.protocol.specs.Serving.{no-fetch}
 use Rattle.protocol.specs.Reading.{read-rule}
 use Rattle.protocol.specs.Receiving.{receive-rule}
 use Rattle.protocol.specs.Replying.{take-rule, abandon-rule}
-use Rattle.protocol.specs.Runs.{Call, Answer, Rack, write, read, fetch, receive, apply, serve, take-reply, abandon, written, was-read, begun, received, applied, served, replied, abandoned, told-so, fresh, open-from, new-rack, at, step, site-of, frame-of}
+use Rattle.protocol.specs.Runs.{Call, Answer, Rack, write, read, fetch, receive, apply, serve, take-reply, abandon, written, was-read, received, applied, replied, abandoned, told-so, fresh, open-from, new-rack, at, step, site-of, frame-of}
 use Rattle.protocol.proofs.Model as model
 use Rattle.protocol.proofs.Views.{config, view, event-of, copy-view}
 use Rattle.protocol.proofs.ViewLaws.{view-in, view-row-out, view-column-out}
@@ -80,21 +74,38 @@ module _ {V : Type 0} (k : Kind V) (lawk : Lawful k) (p : Placed) (law : Lawful-
 
   opened-sound : (i : ℕ) → i < p .sites → Sound k p cu cf (opened k p i cu cf (fresh cu cf))
   opened-sound i h = record {
-    site = h; sites = refl; registers = refl; update-places = refl; fetch-places = refl;
-    copies-long = length-replicate (p .registers) (unwritten k); updates-long = length-replicate cu no-update; fetches-long = length-replicate cf no-fetch;
-    updates-fit = omega arith; fetches-fit = omega arith;
-    sent = zero-clock (p .sites); applied-long = length-replicate {A = ℕ} 8 0; written = omega arith; fetched = omega arith;
+    site = h;
+    sites = refl;
+    registers = refl;
+    update-places = refl;
+    fetch-places = refl;
+    copies-long = length-replicate (p .registers) (unwritten k);
+    updates-long = length-replicate cu no-update;
+    fetches-long = length-replicate cf no-fetch;
+    updates-fit = omega arith;
+    fetches-fit = omega arith;
+    sent = zero-clock (p .sites);
+    applied-long = length-replicate {A = ℕ} 8 0;
+    written = omega arith;
+    fetched = omega arith;
     copies = λ r q. subst (Good-copy k (p .sites)) (sym (unwritten-at r q)) (unwritten-good (p .sites));
-    updates = λ u z. absurd z; fetches = λ f z. absurd z }
+    updates = λ u z. absurd z;
+    fetches = λ f z. absurd z;
+  }
 
   opened-agrees : (i : ℕ) → Agrees k (model.opened (config k p law)) (opened k p i cu cf (fresh cu cf))
   opened-agrees i = record {
     sent = λ a b. sym (zero-view (p .sites) a b);
     applies = λ a. sym (zeros-at 8 a);
     copy = λ r h.
-      ap₂ (λ x f. record { by = 0; num = 0; reg = r; val = num x; mat = f }) (sym (plain-taken k lawk (k .start))) (λ z a b. sym (zero-view (p .sites) a b) z)
-      ∙ sym (ap (copy-view k (p .sites) r) (unwritten-at r h));
-    count = refl; fetches = refl; out = refl; updates = refl; asks = refl }
+        ap₂ (λ x f. record { by = 0; num = 0; reg = r; val = num x; mat = f }) (sym (plain-taken k lawk (k .start))) (λ z a b. sym (zero-view (p .sites) a b) z)
+        ∙ sym (ap (copy-view k (p .sites) r) (unwritten-at r h));
+    count = refl;
+    fetches = refl;
+    out = refl;
+    updates = refl;
+    asks = refl;
+  }
 
   pub opened-linked : Linked k p cu cf (model.opened (config k p law)) (new-rack k p cu cf)
   opened-linked = record {
@@ -109,7 +120,7 @@ module _ {V : Type 0} (k : Kind V) (lawk : Lawful k) (p : Placed) (law : Lawful-
 
   -- one site moves, the others stay
   pub relinked : (e : ℕ → model.Event) (t : ℕ) (w : model.World) (rack : Rack) (i : ℕ) (s : State) (v : model.Event) → i < p .sites → Linked k p cu cf w rack → Stepped k p law cu cf e t w (at rack i) s v
-    → Linked k p cu cf (model.after (config k p law) v w) (set rack i s)
+      → Linked k p cu cf (model.after (config k p law) v w) (set rack i s)
   relinked e t w rack i s v h l m =
       let long : i < length rack = omega (arith, l .all) in
       let me : s .site ≡ i = m .kept ∙ l .number i h in
@@ -118,9 +129,9 @@ module _ {V : Type 0} (k : Kind V) (lawk : Lawful k) (p : Placed) (law : Lawful-
         number = λ j q. set-at rack i s (fresh 0 0) j long (λ x. x .site ≡ j) (λ z. me ∙ sym z) (λ _. l .number j q);
         sound = λ j q. set-at rack i s (fresh 0 0) j long (Sound k p cu cf) (λ _. m .sound) (λ _. l .sound j q);
         agrees = λ j q.
-          set-at rack i s (fresh 0 0) j long (Agrees k (model.after (config k p law) v w)) (λ _. m .agrees)
-          (λ z. agrees-same k (model.after (config k p law) v w) w (at rack j)
-              (untouched (config k p law) w v (at rack i .site) (at rack j .site) (m .changes) (λ y. z (sym (l .number j q) ∙ y ∙ l .number i h))) (l .agrees j q));
+            set-at rack i s (fresh 0 0) j long (Agrees k (model.after (config k p law) v w)) (λ _. m .agrees)
+            (λ z. agrees-same k (model.after (config k p law) v w) w (at rack j)
+            (untouched (config k p law) w v (at rack i .site) (at rack j .site) (m .changes) (λ y. z (sym (l .number j q) ∙ y ∙ l .number i h))) (l .agrees j q));
       }
 
   module _ (e : ℕ → model.Event) (t : ℕ) (w : model.World) (rack : Rack) (l : Linked k p cu cf w rack) where

@@ -1,13 +1,13 @@
 -- What readiness and the two gates mean: an item's need, as the rules compute it from a matrix, is the model's need; so the test holds exactly if
 -- nothing needed is missing.
-use mathlib.Core.Path.{_≡_, refl, sym, ap, subst, _∙_}
-use mathlib.Core.Bool.{Bool, true, false, cond}
+use mathlib.Core.Path.{_≡_, sym, ap, _∙_}
+use mathlib.Core.Bool.{true, false, cond}
 use mathlib.Core.List.{List}
-use Prim.Native.Nat.{ℕ, _+_, _-_, _*_, _<_, _≤_}
+use Prim.Native.Nat.{ℕ, _-_, _<_, _≤_}
 use native.Mathlib.Decide.{ℕ-discrete}
 use native.Mathlib.Omega.{arith}
 use borrow.Author.Tests.{eq-eqb, ne-eqb, lt-ltb}
-use lib.Dec.{eqb, ltb}
+use lib.Dec.{eqb}
 use lib.ListN.{length, getD}
 use Rattle.clocks.specs.Matrices.{column}
 use Rattle.clocks.specs.Rows.{less-one, nowhere-below}
@@ -22,6 +22,7 @@ need-is n counts i sender a h hi hs ha = go (ℕ-discrete a sender)
   where
     entry-is : getD (column n counts i) a 0 ≡ view n counts a i
     entry-is = column-count n counts i a ha ∙ sym (view-in n counts a i ha hi)
+
     go : Dec (a ≡ sender) → getD (less-one (column n counts i) sender) a 0 ≡ cond (eqb a sender) (view n counts a i - 1) (view n counts a i)
     go (yes q) =
         let l : a < length (column n counts i) = omega (arith, column-length n counts i h) in

@@ -1,49 +1,44 @@
 -- Applying and serving are steps of the model: the oldest ready item is taken out of the list, the rest keeps its order.
-use mathlib.Core.Path.{_≡_, refl, sym, ap, ap₂, subst, _∙_}
-use mathlib.Core.Bool.{Bool, true, false, cond, _&&_}
+use mathlib.Core.Path.{_≡_, refl, sym, ap, subst, _∙_}
+use mathlib.Core.Bool.{true, false, cond, _&&_}
 use mathlib.Core.List.{List, [], _∷_, _++_, map}
 use mathlib.Core.Logic.{_⊎_, inl, inr}
-use Prim.Native.Nat.{ℕ, suc, _+_, _-_, _*_, _<_, _≤_}
+use Prim.Native.Nat.{ℕ, suc, _+_, _-_, _<_, _≤_}
 use native.Mathlib.Nat.{zero-add}
 use native.Mathlib.Omega.{arith}
-use borrow.Author.Tests.{ltb-true}
 use lib.Dec.{eqb, ltb, leb}
 use lib.ListN.{length, take, drop, getD, set}
 use Rattle.std.proofs.shelf.Lists.{length-set, length-take, getD-take}
 use Rattle.std.specs.declared.option.Option.{Option}
 use Rattle.std.specs.declared.option.Option.the-variants.{Some, None}
-use Rattle.std.specs.declared.result.Result.the-variants.{Ok, Err}
 use Rattle.clocks.specs.Counts.{limit}
-use Rattle.clocks.specs.Rows.{raised-at}
-use Rattle.fields.specs.Bits.{num}
-use Rattle.values.specs.Kinds.{Kind, Lawful, taken}
-use Rattle.values.specs.declared.fault.Refusal.the-variants.{OtherTables, NoneReady, CountAtLimit, NoRoom}
-use Rattle.waiting.specs.Needs.{update-need, fetch-need}
+use Rattle.values.specs.Kinds.{Kind}
+use Rattle.values.specs.declared.fault.Refusal.the-variants.{OtherTables, CountAtLimit, NoRoom}
+use Rattle.waiting.specs.Needs.{update-need}
 use Rattle.waiting.specs.Queues.{first-where, closed-up}
 use Rattle.waiting.specs.declared.items.Replica.{Replica}
 use Rattle.waiting.specs.declared.items.WaitingFetch.{WaitingFetch}
 use Rattle.waiting.specs.declared.items.WaitingUpdate.{WaitingUpdate}
 use Rattle.waiting.proofs.QueueLaws.{closed-list, closed-length}
-use Rattle.protocol.specs.States.{Placed, Lawful-placed, State, Outcome, need, given}
+use Rattle.protocol.specs.States.{Placed, Lawful-placed, State}
 use Rattle.protocol.specs.Words.{fits, updates-ok, fetches-ok, waiting-updates, waiting-fetches, copy-of, copy-ok, no-copy}
 use Rattle.protocol.specs.Reading.{value-of}
 use Rattle.protocol.specs.Receiving.{with-lists}
-use Rattle.protocol.specs.Applying.{Applied, ready-update, no-update, after-apply, applied-at, apply-first, apply-rule}
-use Rattle.protocol.specs.Serving.{Served, ready-fetch, no-fetch, reply-size, served-at, serve-first, serve-rule}
+use Rattle.protocol.specs.Applying.{ready-update, no-update, after-apply, apply-first, apply-rule}
+use Rattle.protocol.specs.Serving.{ready-fetch, no-fetch, reply-size, serve-first, serve-rule}
 use Rattle.protocol.proofs.Model as model
 use Rattle.protocol.proofs.ModelBasics.{set-same, set-other}
-use Rattle.protocol.proofs.Views.{config, view, row-view, copy-view, update-view, fetch-view, when-ok, applied-event, served-event}
+use Rattle.protocol.proofs.Views.{config, view, row-view, copy-view, update-view, fetch-view, applied-event, served-event}
 use Rattle.protocol.proofs.Agreement.{Good-copy, Good-update, Good-fetch, Sound, Agrees, by-apply, by-serve}
 use Rattle.protocol.proofs.Lists.{in-take, in-drop, in-either, around, in-around, found-within, found-passes, found-first, all-map-in, map-append}
 use Rattle.protocol.proofs.Readiness.{need-is, ready-at, not-ready, row-in}
-use Rattle.protocol.proofs.Stepping.{Stepped, Ends, stepped-refused, need-ends, given-ends, cond-ends, set-at, raised-agrees}
+use Rattle.protocol.proofs.Stepping.{Stepped, Ends, stepped-refused, need-ends, given-ends, set-at, raised-agrees}
 
 -- a list around a place of the table that holds it
 item-in : {A : Type 0} (xs : List A) (n j : ℕ) (d : A) → j < n → getD (take n xs) j d ≡ getD xs j d
 item-in xs n j d h = getD-take n xs j d h
 
 module _ {V : Type 0} (k : Kind V) (p : Placed) (law : Lawful-placed p) (cu cf : ℕ) (e : ℕ → model.Event) (t : ℕ) (w : model.World) (s : State) (ok : Sound k p cu cf s) (agree : Agrees k w s) where
-
   n8 : s .sites ≤ 8
   n8 = subst (λ n. n ≤ 8) (sym (ok .sites)) (law .few .1)
 
@@ -116,35 +111,48 @@ module _ {V : Type 0} (k : Kind V) (p : Placed) (law : Lawful-placed p) (cu cf :
         waits = agree .updates ∙ ap (map (update-view k (s .sites))) split ∙ map-append (update-view k (s .sites)) front (u ∷ back);
         ready = ready-means u (good .sender) (subst (λ x. ready-update s x ≡ true) item (found-passes (ready-update s) no-update 0 j (waiting-updates s) found-0));
         oldest =
-          all-map-in (update-view k (s .sites)) (λ x. ready-update s x ≡ false) (λ y. model.Ready (config k p law) w (s .site) y → ⊥) front
-          (λ x i r. unready-means x (ok .updates x (in-take x j (waiting-updates s) i) .sender) r) (found-first (ready-update s) 0 j (waiting-updates s) found-0);
+            all-map-in (update-view k (s .sites)) (λ x. ready-update s x ≡ false) (λ y. model.Ready (config k p law) w (s .site) y → ⊥) front
+            (λ x i r. unready-means x (ok .updates x (in-take x j (waiting-updates s) i) .sender) r) (found-first (ready-update s) 0 j (waiting-updates s) found-0);
       };
       changes = by-apply;
       kept = refl;
       sound = record {
-        site = ok .site; sites = ok .sites; registers = ok .registers; update-places = ok .update-places; fetch-places = ok .fetch-places;
+        site = ok .site;
+        sites = ok .sites;
+        registers = ok .registers;
+        update-places = ok .update-places;
+        fetch-places = ok .fetch-places;
         copies-long = length-set (s .copies) (u .register) new-copy ∙ ok .copies-long;
         updates-long = closed-length (s .updates) j (s .updates-waiting) below (omega (arith, ok .updates-fit, ok .updates-long)) ∙ ok .updates-long;
-        fetches-long = ok .fetches-long; updates-fit = omega (arith, ok .updates-fit); fetches-fit = ok .fetches-fit;
-        sent = ok .sent; applied-long = length-set (s .applied) (u .sender) _ ∙ ok .applied-long; written = ok .written; fetched = ok .fetched;
+        fetches-long = ok .fetches-long;
+        updates-fit = omega (arith, ok .updates-fit);
+        fetches-fit = ok .fetches-fit;
+        sent = ok .sent;
+        applied-long = length-set (s .applied) (u .sender) _ ∙ ok .applied-long;
+        written = ok .written;
+        fetched = ok .fetched;
         copies = λ q h.
-          set-at (s .copies) (u .register) new-copy no-copy q (omega (arith, good .register, ok .copies-long)) (Good-copy k (s .sites))
-          (λ _. record { value = good .value; bits = good .bits; matrix = good .matrix; label = (good .sender, good .number) }) (λ _. ok .copies q h);
+            set-at (s .copies) (u .register) new-copy no-copy q (omega (arith, good .register, ok .copies-long)) (Good-copy k (s .sites))
+            (λ _. record { value = good .value; bits = good .bits; matrix = good .matrix; label = (good .sender, good .number) }) (λ _. ok .copies q h);
         updates = λ x i. ok .updates x (within x (in-either x front back (subst (λ l. model.In x l) rest i)));
-        fetches = ok .fetches };
+        fetches = ok .fetches;
+      };
       agrees = record {
         sent = agree .sent;
         applies = λ a.
-          ap (λ f. f a) (set-same (w .applies) (s .site) _)
-          ∙ raised-agrees (w .applies (s .site)) (s .applied) (u .sender) (omega (arith, ok .applied-long, good .sender, n8)) (agree .applies) a;
+            ap (λ f. f a) (set-same (w .applies) (s .site) _)
+            ∙ raised-agrees (w .applies (s .site)) (s .applied) (u .sender) (omega (arith, ok .applied-long, good .sender, n8)) (agree .applies) a;
         copy = λ q h.
-          ap (λ f. f q) (set-same (w .copy) (s .site) (model.set (w .copy (s .site)) (u .register) (update-view k (s .sites) u)))
-          ∙ set-at (s .copies) (u .register) new-copy no-copy q (omega (arith, good .register, ok .copies-long)) (λ c. model.set (w .copy (s .site)) (u .register) (update-view k (s .sites) u) q ≡ copy-view k (s .sites) q c)
-          (λ z. ap (model.set (w .copy (s .site)) (u .register) (update-view k (s .sites) u)) z ∙ set-same (w .copy (s .site)) (u .register) (update-view k (s .sites) u) ∙ ap (λ i. copy-view k (s .sites) i new-copy) (sym z))
-          (λ z. set-other (w .copy (s .site)) (u .register) q (update-view k (s .sites) u) z ∙ agree .copy q h);
-        count = agree .count; fetches = agree .fetches; out = agree .out;
+            ap (λ f. f q) (set-same (w .copy) (s .site) (model.set (w .copy (s .site)) (u .register) (update-view k (s .sites) u)))
+            ∙ set-at (s .copies) (u .register) new-copy no-copy q (omega (arith, good .register, ok .copies-long)) (λ c. model.set (w .copy (s .site)) (u .register) (update-view k (s .sites) u) q ≡ copy-view k (s .sites) q c)
+            (λ z. ap (model.set (w .copy (s .site)) (u .register) (update-view k (s .sites) u)) z ∙ set-same (w .copy (s .site)) (u .register) (update-view k (s .sites) u) ∙ ap (λ i. copy-view k (s .sites) i new-copy) (sym z))
+            (λ z. set-other (w .copy (s .site)) (u .register) q (update-view k (s .sites) u) z ∙ agree .copy q h);
+        count = agree .count;
+        fetches = agree .fetches;
+        out = agree .out;
         updates = set-same (w .updates) (s .site) _ ∙ sym (ap (map (update-view k (s .sites))) rest ∙ map-append (update-view k (s .sites)) front back);
-        asks = agree .asks };
+        asks = agree .asks;
+      };
     }
       where
         within : (x : WaitingUpdate) → model.In x front ⊎ model.In x back → model.In x (waiting-updates s)
@@ -189,28 +197,46 @@ module _ {V : Type 0} (k : Kind V) (p : Placed) (law : Lawful-placed p) (cu cf :
     serve-accepted = record {
       may = record {
         waits =
-          agree .asks
-          ∙ ap (map (fetch-view (s .sites) (s .site))) (around (waiting-fetches s) j no-fetch (omega (arith, fetch-below, fetches-many)) ∙ ap (λ x. take j (waiting-fetches s) ++ (x ∷ drop (suc j) (waiting-fetches s))) fetch-item)
-          ∙ map-append (fetch-view (s .sites) (s .site)) (take j (waiting-fetches s)) (f ∷ drop (suc j) (waiting-fetches s));
+            agree .asks
+            ∙ ap (map (fetch-view (s .sites) (s .site))) (around (waiting-fetches s) j no-fetch (omega (arith, fetch-below, fetches-many)) ∙ ap (λ x. take j (waiting-fetches s) ++ (x ∷ drop (suc j) (waiting-fetches s))) fetch-item)
+            ∙ map-append (fetch-view (s .sites) (s .site)) (take j (waiting-fetches s)) (f ∷ drop (suc j) (waiting-fetches s));
         ready = served-means f (subst (λ x. ready-fetch s x ≡ true) fetch-item (found-passes (ready-fetch s) no-fetch 0 j (waiting-fetches s) fetch-found));
         oldest =
-          all-map-in (fetch-view (s .sites) (s .site)) (λ x. ready-fetch s x ≡ false) (λ y. model.Served-ready (config k p law) w y → ⊥) (take j (waiting-fetches s))
-          (λ x i r. unserved-means x r) (found-first (ready-fetch s) 0 j (waiting-fetches s) fetch-found);
+            all-map-in (fetch-view (s .sites) (s .site)) (λ x. ready-fetch s x ≡ false) (λ y. model.Served-ready (config k p law) w y → ⊥) (take j (waiting-fetches s))
+            (λ x i r. unserved-means x r) (found-first (ready-fetch s) 0 j (waiting-fetches s) fetch-found);
         answer = sym (agree .copy (f .register) (good-fetch .register));
       };
       changes = by-serve;
       kept = refl;
       sound = record {
-        site = ok .site; sites = ok .sites; registers = ok .registers; update-places = ok .update-places; fetch-places = ok .fetch-places;
-        copies-long = ok .copies-long; updates-long = ok .updates-long;
+        site = ok .site;
+        sites = ok .sites;
+        registers = ok .registers;
+        update-places = ok .update-places;
+        fetch-places = ok .fetch-places;
+        copies-long = ok .copies-long;
+        updates-long = ok .updates-long;
         fetches-long = closed-length (s .fetches) j (s .fetches-waiting) fetch-below (omega (arith, ok .fetches-fit, ok .fetches-long)) ∙ ok .fetches-long;
-        updates-fit = ok .updates-fit; fetches-fit = omega (arith, ok .fetches-fit);
-        sent = ok .sent; applied-long = ok .applied-long; written = ok .written; fetched = ok .fetched;
-        copies = ok .copies; updates = ok .updates;
-        fetches = λ x i. ok .fetches x (within x (in-either x (take j (waiting-fetches s)) (drop (suc j) (waiting-fetches s)) (subst (λ l. model.In x l) fetch-rest i))) };
+        updates-fit = ok .updates-fit;
+        fetches-fit = omega (arith, ok .fetches-fit);
+        sent = ok .sent;
+        applied-long = ok .applied-long;
+        written = ok .written;
+        fetched = ok .fetched;
+        copies = ok .copies;
+        updates = ok .updates;
+        fetches = λ x i. ok .fetches x (within x (in-either x (take j (waiting-fetches s)) (drop (suc j) (waiting-fetches s)) (subst (λ l. model.In x l) fetch-rest i)));
+      };
       agrees = record {
-        sent = agree .sent; applies = agree .applies; copy = agree .copy; count = agree .count; fetches = agree .fetches; out = agree .out; updates = agree .updates;
-        asks = set-same (w .asks) (s .site) _ ∙ sym (ap (map (fetch-view (s .sites) (s .site))) fetch-rest ∙ map-append (fetch-view (s .sites) (s .site)) (take j (waiting-fetches s)) (drop (suc j) (waiting-fetches s))) };
+        sent = agree .sent;
+        applies = agree .applies;
+        copy = agree .copy;
+        count = agree .count;
+        fetches = agree .fetches;
+        out = agree .out;
+        updates = agree .updates;
+        asks = set-same (w .asks) (s .site) _ ∙ sym (ap (map (fetch-view (s .sites) (s .site))) fetch-rest ∙ map-append (fetch-view (s .sites) (s .site)) (take j (waiting-fetches s)) (drop (suc j) (waiting-fetches s)));
+      };
     }
       where
         within : (x : WaitingFetch) → model.In x (take j (waiting-fetches s)) ⊎ model.In x (drop (suc j) (waiting-fetches s)) → model.In x (waiting-fetches s)

@@ -1,17 +1,17 @@
 -- The frame that an accepted call has written is the frame of its event's message, and the message is in range.
-use mathlib.Core.Path.{_≡_, refl, sym, ap, ap₂, subst, _∙_}
+use mathlib.Core.Path.{_≡_, refl, sym, ap, subst, _∙_}
 use mathlib.Core.Bool.{Bool, true, false, cond, not, _&&_}
-use mathlib.Core.List.{List, [], map}
+use mathlib.Core.List.{List, map}
 use Prim.Native.Nat.{ℕ, suc, _+_, _*_, _^_, _<_, _≤_}
 use native.Mathlib.Omega.{arith}
-use borrow.Author.Tests.{ltb-true, leb-true, eqb-true, eq-eqb}
+use borrow.Author.Tests.{ltb-true, leb-true, eqb-true}
 use lib.Dec.{eqb, ltb, leb}
 use lib.ListN.{length, take, drop, getD}
 use Rattle.std.specs.declared.option.Option.{Option}
 use Rattle.std.specs.declared.option.Option.the-variants.{Some, None}
 use Rattle.std.specs.declared.result.Result.{Result}
 use Rattle.std.specs.declared.result.Result.the-variants.{Ok, Err}
-use Rattle.clocks.specs.Counts.{limit, within}
+use Rattle.clocks.specs.Counts.{limit}
 use Rattle.clocks.specs.Matrices.{column}
 use Rattle.clocks.proofs.MatrixLaws.{area-le, column-length, column-within}
 use Rattle.fields.specs.Bits.{num}
@@ -28,17 +28,17 @@ use Rattle.waiting.specs.declared.items.WaitingFetch.{WaitingFetch}
 use Rattle.protocol.specs.States.{Placed, Lawful-placed, State, Session, Outcome, need, given}
 use Rattle.protocol.specs.Words.{others, fits, shows, is-out, bound-for, fetches-ok, waiting-fetches, copy-of, copy-ok}
 use Rattle.protocol.specs.Reading.{value-of}
-use Rattle.protocol.specs.Writing.{Written, grown, can-write, update-sent, after-write, update-size, written-to, write-rule}
-use Rattle.protocol.specs.Fetching.{Begun, fetch-sent, fetch-size, fetch-rule}
-use Rattle.protocol.specs.Serving.{Served, ready-fetch, no-fetch, reply-sent, reply-size, serve-first, serve-rule}
+use Rattle.protocol.specs.Writing.{Written, grown, can-write, update-sent, after-write, update-size, write-rule}
+use Rattle.protocol.specs.Fetching.{fetch-sent, fetch-size, fetch-rule}
+use Rattle.protocol.specs.Serving.{ready-fetch, no-fetch, reply-sent, reply-size, serve-first, serve-rule}
 use Rattle.protocol.specs.Runs.{Answer, written, begun, served, told-so, frame-of}
 use Rattle.protocol.proofs.Model as model
-use Rattle.protocol.proofs.Views.{config, view, row-view, copy-view, fetch-view, wrote-view, asked-view, when-ok, served-event, home-below}
+use Rattle.protocol.proofs.Views.{view, row-view, fetch-view, wrote-view, asked-view, when-ok, served-event, home-below}
 use Rattle.protocol.proofs.ViewLaws.{row-view-column, all-small}
 use Rattle.protocol.proofs.Values.{plain-taken, plain-read}
 use Rattle.protocol.proofs.Frames.{Carried, of-update, of-fetch, of-reply}
 use Rattle.protocol.proofs.Agreement.{Clock, Good-copy, Good-fetch, Sound, Agrees}
-use Rattle.protocol.proofs.Stepping.{and-true, not-true}
+use Rattle.protocol.proofs.Stepping.{and-true}
 use Rattle.protocol.proofs.StepWriting.{grown-clock}
 use Rattle.protocol.proofs.StepApplying.{good-fetch}
 
@@ -47,7 +47,6 @@ clock-counts : (n : ℕ) (counts : List ℕ) → n ≤ 8 → Clock n counts → 
 clock-counts n counts h c = (omega (arith, area-le n h, c .long), all-small (n * n) counts (c .small))
 
 module _ {V : Type 0} (k : Kind V) (lawk : Lawful k) (p : Placed) (law : Lawful-placed p) (cu cf : ℕ) (e : ℕ → model.Event) (t : ℕ) (w : model.World) (s : State) (ok : Sound k p cu cf s) (agree : Agrees k w s) where
-
   n8 : s .sites ≤ 8
   n8 = subst (λ n. n ≤ 8) (sym (ok .sites)) (law .few .1)
 
@@ -82,9 +81,12 @@ module _ {V : Type 0} (k : Kind V) (lawk : Lawful k) (p : Placed) (law : Lawful-
 
   update-range : (r : ℕ) (v : V) → r < s .registers → can-write p s r ≡ true → Update-in-range (update-sent p s r v)
   update-range r v h can = record {
-    sites = (n2, n8); sender = ok .site; register = small-register r h;
+    sites = (n2, n8);
+    sender = ok .site;
+    register = small-register r h;
     number = (omega arith, omega (arith, ltb-true _ _ (and-true (ltb (s .written) limit) _ can .0)));
-    matrix = clock-counts (s .sites) (grown p s r) n8 (grown-clock k lawk p law cu cf e t w s ok agree r v can) }
+    matrix = clock-counts (s .sites) (grown p s r) n8 (grown-clock k lawk p law cu cf e t w s ok agree r v can);
+  }
 
   frame-size : (a : Written) (place bytes : List ℕ) (m : ℕ) → a .length ≡ m → 0 < m → frame-of {V = V} (written a place) ≡ Some bytes → _≡_ {A = Option (List ℕ)} (Some (take m place)) (Some bytes)
   frame-size a place bytes m q h z = go (eqb (a .length) 0) refl
@@ -103,7 +105,7 @@ module _ {V : Type 0} (k : Kind V) (lawk : Lawful k) (p : Placed) (law : Lawful-
       go (ltb-true _ _ h) can (eqb (others p r (s .site)) 0))))))
     where
       go : r < s .registers → can-write p s r ≡ true → (b : Bool) → Frames written (model.wrote (wrote-view k p s r v))
-        (cond {A = Outcome Written} b (record { answer = Ok (record { label = (s .site, s .written + 1); others = 0; length = 0 }); after = after-write k p s r v; place = place })
+          (cond {A = Outcome Written} b (record { answer = Ok (record { label = (s .site, s .written + 1); others = 0; length = 0 }); after = after-write k p s r v; place = place })
           (need (leb (update-size k s) (length place)) NoRoom s place
           (record {
             answer = Ok (record { label = (s .site, s .written + 1); others = others p r (s .site); length = update-size k s });
@@ -116,7 +118,7 @@ module _ {V : Type 0} (k : Kind V) (lawk : Lawful k) (p : Placed) (law : Lawful-
           let g = update-range r v h can in
           of-update (update-sent p s r v)
           (in-place (update-size k s) (update-frame k (update-sent p s r v)) place bytes (update-length k lawk (update-sent p s r v) (g .matrix .0)) (leb-true _ _ room)
-              (frame-size (record { label = (s .site, s .written + 1); others = others p r (s .site); length = update-size k s }) (write-place (update-size k s) (update-frame k (update-sent p s r v)) place) bytes (update-size k s) refl (omega arith) q))
+          (frame-size (record { label = (s .site, s .written + 1); others = others p r (s .site); length = update-size k s }) (write-place (update-size k s) (update-frame k (update-sent p s r v)) place) bytes (update-size k s) refl (omega arith) q))
           g refl ev)
 
   -- beginning a fetch
@@ -125,8 +127,13 @@ module _ {V : Type 0} (k : Kind V) (lawk : Lawful k) (p : Placed) (law : Lawful-
   fetch-range r h room =
       let home : p .home (s .site) r < s .sites = subst (λ n. p .home (s .site) r < n) (sym (ok .sites)) (home-below p law (s .site) r (subst (λ n. s .site < n) (ok .sites) (ok .site)) (subst (λ n. r < n) (ok .registers) h)) in
       record {
-        sites = (n2, n8); reader = ok .site; home = home; register = small-register r h; number = (omega arith, omega arith);
-        column = (omega (arith, n8, column-length (s .sites) (s .sent) (p .home (s .site) r) n8), all-small (s .sites) (column (s .sites) (s .sent) (p .home (s .site) r)) (column-within (s .sites) (s .sent) (p .home (s .site) r) home (ok .sent .small))) }
+        sites = (n2, n8);
+        reader = ok .site;
+        home = home;
+        register = small-register r h;
+        number = (omega arith, omega arith);
+        column = (omega (arith, n8, column-length (s .sites) (s .sent) (p .home (s .site) r) n8), all-small (s .sites) (column (s .sites) (s .sent) (p .home (s .site) r)) (column-within (s .sites) (s .sent) (p .home (s .site) r) home (ok .sent .small)));
+      }
 
   pub frames-fetching : (z : Session) (r : ℕ) (place : List ℕ) → Frames begun (model.asked (asked-view p s r)) (fetch-rule p s z r place)
   frames-fetching z r place =
@@ -157,8 +164,14 @@ module _ {V : Type 0} (k : Kind V) (lawk : Lawful k) (p : Placed) (law : Lawful-
 
     reply-range : (v : V) → Reply-in-range (reply-sent s (getD (s .fetches) j no-fetch) (copy-of s (getD (s .fetches) j no-fetch .register)) v)
     reply-range v = record {
-      sites = (n2, n8); home = ok .site; reader = good .reader; register = small-register _ (good .register); number = good .number;
-      label = copy-good .label; matrix = clock-counts (s .sites) (copy-of s (getD (s .fetches) j no-fetch .register) .matrix .counts) n8 (copy-good .matrix) }
+      sites = (n2, n8);
+      home = ok .site;
+      reader = good .reader;
+      register = small-register _ (good .register);
+      number = good .number;
+      label = copy-good .label;
+      matrix = clock-counts (s .sites) (copy-of s (getD (s .fetches) j no-fetch .register) .matrix .counts) n8 (copy-good .matrix);
+    }
 
     value-is : (v : V) → value-of k (copy-of s (getD (s .fetches) j no-fetch .register)) ≡ Ok v → num (taken k (copy-of s (getD (s .fetches) j no-fetch .register) .bits .bytes)) ≡ num (k .bits v)
     value-is v q =
@@ -183,5 +196,10 @@ module _ {V : Type 0} (k : Kind V) (lawk : Lawful k) (p : Placed) (law : Lawful-
           (in-place (reply-size k s) (reply-frame k m) place bytes (reply-length k lawk m (g .matrix .0)) (leb-true _ _ fit) z)
           g refl
           (ev ∙ ap (λ x. model.served (fetch-view (s .sites) (s .site) (getD (s .fetches) j no-fetch))
-              (record { by = writer (copy-of s (getD (s .fetches) j no-fetch .register) .label); num = write-number (copy-of s (getD (s .fetches) j no-fetch .register) .label); reg = getD (s .fetches) j no-fetch .register; val = x;
-                mat = view (s .sites) (copy-of s (getD (s .fetches) j no-fetch .register) .matrix .counts) }) (map (fetch-view (s .sites) (s .site)) (take j (waiting-fetches s))) (map (fetch-view (s .sites) (s .site)) (drop (suc j) (waiting-fetches s)))) (value-is j q v vq)))))
+          (record {
+            by = writer (copy-of s (getD (s .fetches) j no-fetch .register) .label);
+            num = write-number (copy-of s (getD (s .fetches) j no-fetch .register) .label);
+            reg = getD (s .fetches) j no-fetch .register;
+            val = x;
+            mat = view (s .sites) (copy-of s (getD (s .fetches) j no-fetch .register) .matrix .counts);
+          }) (map (fetch-view (s .sites) (s .site)) (take j (waiting-fetches s))) (map (fetch-view (s .sites) (s .site)) (drop (suc j) (waiting-fetches s)))) (value-is j q v vq)))))

@@ -1,40 +1,35 @@
 -- Writing is a step of the model: the raised row is the model's bump, and where the writer holds the register its copy and its count change together.
-use mathlib.Core.Path.{_≡_, refl, sym, ap, ap₂, subst, _∙_}
-use mathlib.Core.Bool.{Bool, true, false, cond, not, _&&_, _||_}
-use mathlib.Core.List.{List, [], _∷_, _++_}
-use mathlib.Core.Option.{none}
-use Prim.Native.Nat.{ℕ, suc, _+_, _-_, _*_, _<_, _≤_}
+use mathlib.Core.Path.{_≡_, refl, sym, ap, subst, _∙_}
+use mathlib.Core.Bool.{Bool, true, false, cond, not}
+use mathlib.Core.List.{List}
+use Prim.Native.Nat.{ℕ, suc, _+_, _*_, _<_, _≤_}
 use native.Mathlib.Omega.{arith}
-use borrow.Author.Tests.{ltb-true, leb-true, eqb-true}
+use borrow.Author.Tests.{ltb-true}
 use lib.Dec.{eqb, ltb, leb}
 use lib.ListN.{length, getD, set}
-use Rattle.std.proofs.shelf.Lists.{length-set, getD-set-same, getD-set-other, take-append-le, take-at}
-use Rattle.std.specs.declared.option.Option.{Option}
-use Rattle.std.specs.declared.option.Option.the-variants.{Some, None}
-use Rattle.std.specs.declared.result.Result.the-variants.{Ok, Err}
-use Rattle.clocks.specs.Counts.{limit, within}
+use Rattle.std.proofs.shelf.Lists.{length-set}
+use Rattle.std.specs.declared.option.Option.the-variants.{Some}
+use Rattle.clocks.specs.Counts.{limit}
 use Rattle.clocks.specs.Matrices.{raised, room}
 use Rattle.clocks.specs.Rows.{raised-at}
 use Rattle.clocks.specs.Sites.{told}
 use Rattle.clocks.proofs.MatrixLaws.{raised-length, raised-within, area-le}
 use Rattle.fields.specs.Bits.{num}
-use Rattle.frames.specs.Messages.{writer, write-number}
-use Rattle.values.specs.Kinds.{Kind, Lawful, taken}
+use Rattle.values.specs.Kinds.{Kind, Lawful}
 use Rattle.waiting.specs.declared.items.Replica.{Replica}
 use Rattle.values.specs.declared.fault.Refusal.the-variants.{OtherTables, OtherSession, FetchIsOut, NoSuchRegister, CountAtLimit, NoRoom}
-use Rattle.protocol.specs.States.{Placed, Lawful-placed, State, Session, Outcome, need}
-use Rattle.protocol.specs.Words.{holders, others, plain-bytes, fits, shows, is-out, copy-of, no-copy, bound-for}
-use Rattle.protocol.specs.Writing.{Written, grown, can-write, after-write, update-size, written-to, write-rule}
+use Rattle.protocol.specs.States.{Placed, Lawful-placed, State, Session}
+use Rattle.protocol.specs.Words.{holders, others, plain-bytes, fits, shows, is-out, no-copy}
+use Rattle.protocol.specs.Writing.{grown, can-write, after-write, update-size, write-rule}
 use Rattle.protocol.proofs.Model as model
 use Rattle.protocol.proofs.ModelBasics.{set-same, set-other}
-use Rattle.protocol.proofs.Views.{config, view, copy-view, wrote-view}
+use Rattle.protocol.proofs.Views.{view, copy-view, wrote-view}
 use Rattle.protocol.proofs.ViewLaws.{view-raised}
 use Rattle.protocol.proofs.Agreement.{Clock, Good-copy, Sound, Agrees, by-write}
 use Rattle.protocol.proofs.Stepping.{Stepped, Ends, need-ends, cond-ends, not-true, and-true, none-out, set-at, raised-agrees}
 use Rattle.protocol.proofs.Values.{plain-taken}
 
 module _ {V : Type 0} (k : Kind V) (lawk : Lawful k) (p : Placed) (law : Lawful-placed p) (cu cf : ℕ) (e : ℕ → model.Event) (t : ℕ) (w : model.World) (s : State) (ok : Sound k p cu cf s) (agree : Agrees k w s) (r : ℕ) (v : V) where
-
   n8 : s .sites ≤ 8
   n8 = subst (λ n. n ≤ 8) (sym (ok .sites)) (law .few .1)
 
@@ -75,8 +70,8 @@ module _ {V : Type 0} (k : Kind V) (lawk : Lawful k) (p : Placed) (law : Lawful-
     good-copies false q h = ok .copies q h
 
     copies-agree : (b : Bool) (q : ℕ) → q < s .registers →
-      cond {A = ℕ → ℕ → model.Write} b (model.set (w .copy) (s .site) (model.set (w .copy (s .site)) r (wrote-view k p s r v))) (w .copy) (s .site) q
-      ≡ copy-view k (s .sites) q (getD (cond b (set (s .copies) r new-copy) (s .copies)) q no-copy)
+        cond {A = ℕ → ℕ → model.Write} b (model.set (w .copy) (s .site) (model.set (w .copy (s .site)) r (wrote-view k p s r v))) (w .copy) (s .site) q
+        ≡ copy-view k (s .sites) q (getD (cond b (set (s .copies) r new-copy) (s .copies)) q no-copy)
     copies-agree true q h =
         ap (λ f. f q) (set-same (w .copy) (s .site) (model.set (w .copy (s .site)) r (wrote-view k p s r v)))
         ∙ set-at (s .copies) r new-copy no-copy q (omega (arith, ok .copies-long)) (λ c. model.set (w .copy (s .site)) r (wrote-view k p s r v) q ≡ copy-view k (s .sites) q c)
@@ -85,8 +80,8 @@ module _ {V : Type 0} (k : Kind V) (lawk : Lawful k) (p : Placed) (law : Lawful-
     copies-agree false q h = agree .copy q h
 
     applied-agree : (b : Bool) (a : ℕ) →
-      cond {A = ℕ → ℕ → ℕ} b (model.set (w .applies) (s .site) (model.set (w .applies (s .site)) (s .site) (suc (w .applies (s .site) (s .site))))) (w .applies) (s .site) a
-      ≡ getD (cond b (raised-at (s .applied) (s .site)) (s .applied)) a 0
+        cond {A = ℕ → ℕ → ℕ} b (model.set (w .applies) (s .site) (model.set (w .applies (s .site)) (s .site) (suc (w .applies (s .site) (s .site))))) (w .applies) (s .site) a
+        ≡ getD (cond b (raised-at (s .applied) (s .site)) (s .applied)) a 0
     applied-agree true a =
         ap (λ f. f a) (set-same (w .applies) (s .site) _)
         ∙ raised-agrees (w .applies (s .site)) (s .applied) (s .site) (omega (arith, ok .applied-long, ok .site, n8)) (agree .applies) a
@@ -113,16 +108,34 @@ module _ {V : Type 0} (k : Kind V) (lawk : Lawful k) (p : Placed) (law : Lawful-
       changes = by-write;
       kept = refl;
       sound = record {
-        site = ok .site; sites = ok .sites; registers = ok .registers; update-places = ok .update-places; fetch-places = ok .fetch-places;
-        copies-long = copies-long (p .held r (s .site)); updates-long = ok .updates-long; fetches-long = ok .fetches-long; updates-fit = ok .updates-fit; fetches-fit = ok .fetches-fit;
-        sent = grown-clock can; applied-long = applied-long (p .held r (s .site)); written = number-fits; fetched = ok .fetched;
-        copies = good-copies (p .held r (s .site)); updates = ok .updates; fetches = ok .fetches };
+        site = ok .site;
+        sites = ok .sites;
+        registers = ok .registers;
+        update-places = ok .update-places;
+        fetch-places = ok .fetch-places;
+        copies-long = copies-long (p .held r (s .site));
+        updates-long = ok .updates-long;
+        fetches-long = ok .fetches-long;
+        updates-fit = ok .updates-fit;
+        fetches-fit = ok .fetches-fit;
+        sent = grown-clock can;
+        applied-long = applied-long (p .held r (s .site));
+        written = number-fits;
+        fetched = ok .fetched;
+        copies = good-copies (p .held r (s .site));
+        updates = ok .updates;
+        fetches = ok .fetches;
+      };
       agrees = record {
         sent = λ a b. ap (λ f. f a b) (set-same (w .sent) (s .site) _) ∙ sym (matrix a b);
         applies = applied-agree (p .held r (s .site));
         copy = copies-agree (p .held r (s .site));
         count = set-same (w .count) (s .site) _ ∙ omega (arith, agree .count);
-        fetches = agree .fetches; out = agree .out; updates = agree .updates; asks = agree .asks };
+        fetches = agree .fetches;
+        out = agree .out;
+        updates = agree .updates;
+        asks = agree .asks;
+      };
     }
 
   pub step-writing : (z : Session) (place : List ℕ) → Ends k p law cu cf e t w s ok agree (model.wrote (wrote-view k p s r v)) (write-rule k p s z r v place)

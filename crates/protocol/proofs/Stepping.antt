@@ -3,21 +3,19 @@ use mathlib.Core.Path.{_≡_, refl, sym, ap, subst, _∙_}
 use mathlib.Core.Bool.{Bool, true, false, cond, not, _&&_}
 use mathlib.Core.List.{List}
 use mathlib.Core.Option.{none}
-use Prim.Native.Nat.{ℕ, suc, _+_, _<_, _≤_}
+use Prim.Native.Nat.{ℕ, suc, _+_, _<_}
 use native.Mathlib.Decide.{ℕ-discrete}
 use native.Mathlib.Omega.{arith}
-use lib.Dec.{eqb}
 use lib.ListN.{length, getD, set}
 use Rattle.std.proofs.shelf.Lists.{getD-set-same, getD-set-other}
 use Rattle.std.specs.declared.option.Option.{Option}
 use Rattle.std.specs.declared.option.Option.the-variants.{Some, None}
 use Rattle.std.specs.declared.result.Result.{Result}
 use Rattle.std.specs.declared.result.Result.the-variants.{Ok, Err}
-use Rattle.values.specs.Kinds.{Kind, Lawful}
-use Rattle.values.specs.Refusals.{of-site}
+use Rattle.values.specs.Kinds.{Kind}
 use Rattle.values.specs.declared.fault.Fault.{Fault}
 use Rattle.values.specs.declared.fault.Refusal.{Refusal}
-use Rattle.protocol.specs.States.{Placed, Lawful-placed, State, Outcome, refuse, need, given}
+use Rattle.protocol.specs.States.{Placed, Lawful-placed, State, Outcome, need, given}
 use Rattle.protocol.specs.Words.{is-out}
 use Rattle.protocol.proofs.Model as model
 use Rattle.protocol.proofs.ModelBasics.{set-same, set-other}

@@ -10,7 +10,6 @@ use mathlib.Core.Path.{_≡_, refl, sym, ap, subst, _∙_}
 use mathlib.Core.Logic.{_⊎_, inl, inr}
 use mathlib.Core.List.{List, [], _∷_, map}
 use Prim.Native.Nat.{ℕ, zero, suc}
-use native.Mathlib.Omega.{arith}
 use lib.ListN.{take, drop, getD}
 use Rattle.std.specs.declared.option.Option.{Option}
 use Rattle.std.specs.declared.option.Option.the-variants.{Some, None}
@@ -160,7 +159,7 @@ module _ {V : Type 0} (k : Kind V) (kl : Lawful k) (p : Placed) (h : List (Step 
       subst (λ o. Shown k h t (replied-event k (at w i) o)) (sym (g .reads))
       (as-fetched (at w i .site) (reply-sent-view k (at w i .sites) m) (reply-ask m) z bytes (m .value) (m .label)
       (subst (λ j. Step-at h t (record { call = take-reply j z bytes; answer = replied (record { value = m .value; label = m .label }) })) (sym si)
-        (subst (λ a. Step-at h t (record { call = take-reply i z bytes; answer = replied a })) (g .answer) st))
+      (subst (λ a. Step-at h t (record { call = take-reply i z bytes; answer = replied a })) (g .answer) st))
       (g .labelled) refl refl)
 
   shown-call : (c : Call V) → at w (site-of c) .site ≡ site-of c → Step-at h t (record { call = c; answer = step k p w c .answer }) → Shown k h t (event-of k p w c)

@@ -1,13 +1,12 @@
 -- Values as plain bits: the plain bits of a value are read as that value.
-use mathlib.Core.Path.{_≡_, refl, sym, ap, _∙_}
-use mathlib.Core.List.{List, _++_}
-use mathlib.Core.Bool.{Bool, true, false}
-use Prim.Native.Nat.{ℕ, _+_, _-_, _*_, _≤_}
+use mathlib.Core.Path.{_≡_, sym, ap, _∙_}
+use mathlib.Core.Bool.{false}
+use Prim.Native.Nat.{_-_, _*_}
 use native.Mathlib.Omega.{arith}
 use lib.ListN.{length, take, replicate, length-append}
 use Rattle.std.proofs.shelf.Lists.{take-at, length-replicate}
-use Rattle.std.specs.declared.result.Result.the-variants.{Ok, Err}
-use Rattle.fields.specs.Bits.{num, bits, bits-of}
+use Rattle.std.specs.declared.result.Result.the-variants.{Ok}
+use Rattle.fields.specs.Bits.{num, bits}
 use Rattle.fields.proofs.BitLaws.{bits-num}
 use Rattle.fields.proofs.ByteLaws.{bits-back}
 use Rattle.values.specs.Kinds.{Kind, Lawful, plain, taken}

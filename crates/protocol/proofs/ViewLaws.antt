@@ -2,19 +2,19 @@
 -- Inside n by the laws of matrices, outside both sides are 0.
 use mathlib.Core.Path.{_≡_, refl, sym, ap, ap₂, _∙_}
 use mathlib.Core.Bool.{Bool, true, false, cond, _&&_}
-use mathlib.Core.List.{List, [], _∷_, _++_}
+use mathlib.Core.List.{List}
 use Prim.Native.Nat.{ℕ, _+_, _-_, _*_, _^_, max, _<_, _≤_}
 use native.Mathlib.Decide.{decLt}
 use native.Mathlib.Omega.{arith}
-use borrow.Author.Tests.{lt-ltb, le-ltb, eq-eqb, ne-eqb, eqb-true}
+use borrow.Author.Tests.{lt-ltb, le-ltb, ne-eqb}
 use lib.Dec.{eqb, ltb}
-use lib.ListN.{length, take, drop, getD, replicate}
+use lib.ListN.{length, take, getD, replicate}
 use Rattle.std.proofs.shelf.Elements.{all-from-getD}
 use Rattle.std.proofs.shelf.Lists.{getD-take, length-take, getD-append-left}
 use Rattle.std.specs.shelf.Lists.{All}
-use Rattle.clocks.specs.Counts.{limit, within}
+use Rattle.clocks.specs.Counts.{within}
 use Rattle.clocks.specs.Matrices.{entry, raised, merged, column}
-use Rattle.clocks.specs.Sites.{has, told}
+use Rattle.clocks.specs.Sites.{told}
 use Rattle.clocks.proofs.CountLaws.{within-at}
 use Rattle.clocks.proofs.MatrixLaws.{raised-entry, merged-entry, column-count, place-lt}
 use Rattle.clocks.proofs.SiteLaws.{has-told}
@@ -41,6 +41,7 @@ view-column-out n m k l a = go (ltb k n)
   where
     q : ltb l n ≡ false
     q = le-ltb _ _ a
+
     go : (b : Bool) → cond (b && ltb l n) (entry n m k l) 0 ≡ 0
     go true = rw q
     go false = refl
@@ -64,6 +65,7 @@ view-raised n m i to h out k l = go (decLt k n) (decLt l n)
     plus : (b c : Bool) (x : ℕ) → x + cond (b && c) 1 0 ≡ cond b (x + cond c 1 0) x
     plus true c x = refl
     plus false c x = omega arith
+
     go : Dec (k < n) → Dec (l < n) → view n (raised n m i (told n to)) k l ≡ bump (view n m) i to k l
     go (yes a) (yes b) =
         view-in n (raised n m i (told n to)) k l a b ∙ raised-entry n m i (told n to) k l a b
@@ -84,6 +86,7 @@ view-merged n m o k l = go (decLt k n) (decLt l n)
   where
     none : (x y z : ℕ) → x ≡ 0 → y ≡ 0 → z ≡ 0 → x ≡ max y z
     none x y z a b c = rw (a, b, c)
+
     go : Dec (k < n) → Dec (l < n) → view n (merged n m o) k l ≡ larger (view n m) (view n o) k l
     go (yes a) (yes b) = view-in n (merged n m o) k l a b ∙ merged-entry n m o k l a b ∙ ap₂ max (sym (view-in n m k l a b)) (sym (view-in n o k l a b))
     go (yes a) (no b) = none _ _ _ (view-column-out n (merged n m o) k l (omega arith)) (view-column-out n m k l (omega arith)) (view-column-out n o k l (omega arith))
@@ -132,5 +135,5 @@ row-view-trimmed n m h = λ i k. at k i
 pub all-small : (n : ℕ) (m : List ℕ) → within n m ≡ true → All (λ c. c < 2 ^ 24) (take n m)
 all-small n m h =
     all-from-getD (λ c. c < 2 ^ 24) (take n m) 0 (λ j a.
-        let b : j < n = omega (arith, length-take n m) in
-        rw (getD-take n m j 0 b) (omega (arith, within-at n m h j b)))
+    let b : j < n = omega (arith, length-take n m) in
+    rw (getD-take n m j 0 b) (omega (arith, within-at n m h j b)))

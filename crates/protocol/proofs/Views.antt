@@ -1,14 +1,14 @@
 -- How the rules' runs are seen as runs of the model: a matrix kept row after row is a function of two sites, a value is the number that its
 -- bits make, and each accepted call is an event.
-use mathlib.Core.Path.{_≡_, refl, sym, ap, _∙_}
-use mathlib.Core.Bool.{Bool, true, false, cond, _&&_}
-use mathlib.Core.List.{List, [], _∷_, _++_, map}
+use mathlib.Core.Path.{_≡_}
+use mathlib.Core.Bool.{cond, _&&_}
+use mathlib.Core.List.{List, [], _∷_, map}
 use mathlib.Core.Option.{Option as Maybe, none, some}
-use Prim.Native.Nat.{ℕ, zero, suc, _+_, _-_, _*_, _<_, _≤_}
+use Prim.Native.Nat.{ℕ, zero, suc, _+_, _<_}
 use native.Mathlib.Decide.{decLt}
 use native.Mathlib.Omega.{arith}
-use lib.Dec.{eqb, ltb}
-use lib.ListN.{length, take, drop, getD}
+use lib.Dec.{ltb}
+use lib.ListN.{take, drop, getD}
 use Rattle.std.specs.declared.option.Option.{Option}
 use Rattle.std.specs.declared.option.Option.the-variants.{Some, None}
 use Rattle.std.specs.declared.result.Result.{Result}
@@ -28,14 +28,14 @@ use Rattle.waiting.specs.Queues.{first-where}
 use Rattle.waiting.specs.declared.items.Replica.{Replica}
 use Rattle.waiting.specs.declared.items.WaitingFetch.{WaitingFetch}
 use Rattle.waiting.specs.declared.items.WaitingUpdate.{WaitingUpdate}
-use Rattle.protocol.specs.States.{Placed, Lawful-placed, State, Session, Outcome}
+use Rattle.protocol.specs.States.{Placed, Lawful-placed, State}
 use Rattle.protocol.specs.Words.{waiting-updates, waiting-fetches, copy-of}
-use Rattle.protocol.specs.Writing.{Written, grown, write-rule}
-use Rattle.protocol.specs.Reading.{Read, read-rule}
-use Rattle.protocol.specs.Fetching.{Begun, fetch-rule}
+use Rattle.protocol.specs.Writing.{grown, write-rule}
+use Rattle.protocol.specs.Reading.{read-rule}
+use Rattle.protocol.specs.Fetching.{fetch-rule}
 use Rattle.protocol.specs.Receiving.{receive-rule}
-use Rattle.protocol.specs.Applying.{Applied, ready-update, no-update, apply-rule}
-use Rattle.protocol.specs.Serving.{Served, ready-fetch, no-fetch, serve-rule}
+use Rattle.protocol.specs.Applying.{ready-update, no-update, apply-rule}
+use Rattle.protocol.specs.Serving.{ready-fetch, no-fetch, serve-rule}
 use Rattle.protocol.specs.Replying.{take-rule, abandon-rule}
 use Rattle.protocol.specs.Runs.{Call, Rack, write, read, fetch, receive, apply, serve, take-reply, abandon, at, step}
 use Rattle.protocol.proofs.Model.{Config, Write, Ask, Waiting, Event, refused, wrote, reads, received, applied, asked, queued, served, dropped, local, fetched}

@@ -12,21 +12,21 @@
 -- Assumes nothing.
 use mathlib.Core.Path.{_≡_}
 use mathlib.Core.Logic.{_⊎_, _↔_}
-use mathlib.Core.Bool.{Bool, true, false}
+use mathlib.Core.Bool.{true}
 use mathlib.Core.List.{List, List·Memᴰ}
 use Prim.Native.Nat.{ℕ, _<_, _≤_}
 use lib.ListN.{length, take}
 use Rattle.std.specs.declared.option.Option.{Option}
 use Rattle.std.specs.declared.option.Option.the-variants.{Some, None}
-use Rattle.values.specs.Kinds.{Kind, Lawful}
+use Rattle.values.specs.Kinds.{Kind}
 use Rattle.values.specs.Refusals.{of-site}
 use Rattle.values.specs.declared.fault.Refusal.the-variants.{NoneReady, OtherTables}
 use Rattle.waiting.specs.declared.items.WaitingUpdate.{WaitingUpdate}
-use Rattle.protocol.specs.States.{Placed, Lawful-placed, Session}
+use Rattle.protocol.specs.States.{Placed, Session}
 use Rattle.protocol.specs.Words.{bound-for, waiting-updates}
 use Rattle.protocol.specs.Applying.{Applied, ready-update}
 use Rattle.protocol.specs.Runs.{Call, Step, Step-at, Rack, Run, read, apply, no, applied, was-read, at, new-rack, rack-after, history}
-use Rattle.protocol.specs.Causality.{Writes, Reads, Before, Applies, Waits, Applied-before, Past-applied}
+use Rattle.protocol.specs.Causality.{Writes, Reads, Before, Applies, Waits, Past-applied}
 
 module _ {V : Type 0} (k : Kind V) (p : Placed) (h : List (Step V)) where
   -- Applied in causal order.
@@ -55,7 +55,7 @@ module _ {V : Type 0} (k : Kind V) (p : Placed) (h : List (Step V)) where
 
   abbrev pub Local-reads-answer-the-last : Type 0
   Local-reads-answer-the-last = (t i r : ℕ) (z : Session) (v : V) (label : Option (ℕ × ℕ)) → Step-at h t (record { call = read i z r; answer = was-read (record { value = v; label = label }) })
-    → ((label ≡ None) × (v ≡ k .start) × None-applied t i r) ⊎ ((w : ℕ) × (m : ℕ) × (label ≡ Some (w, m)) × Last-applied t i r w m v)
+      → ((label ≡ None) × (v ≡ k .start) × None-applied t i r) ⊎ ((w : ℕ) × (m : ℕ) × (label ≡ Some (w, m)) × Last-applied t i r w m v)
 
   pub record Applied-in-causal-order : Type 0 where
     pub bound : Only-what-is-bound
@@ -67,7 +67,7 @@ module _ {V : Type 0} (k : Kind V) (p : Placed) (h : List (Step V)) where
 
   abbrev pub Answers-a-write : Type 0
   Answers-a-write = (t i r : ℕ) (v : V) (label : Option (ℕ × ℕ)) → Reads h t i r v label
-    → ((label ≡ None) × (v ≡ k .start)) ⊎ ((s : ℕ) × (w : ℕ) × (m : ℕ) × (s < t) × (label ≡ Some (w, m)) × Writes h s w m r v)
+      → ((label ≡ None) × (v ≡ k .start)) ⊎ ((s : ℕ) × (w : ℕ) × (m : ℕ) × (s < t) × (label ≡ Some (w, m)) × Writes h s w m r v)
 
   -- a start value is causally before every write of its register
   abbrev pub Followed-by : Option (ℕ × ℕ) → ℕ → Type 0
@@ -105,7 +105,7 @@ module _ {V : Type 0} (k : Kind V) (p : Placed) (h : List (Step V)) where
   -- nothing else is answered
   abbrev pub Applies-or-none : Type 0
   Applies-or-none = (t i : ℕ) (x : Step V) → Step-at h t x → x .call ≡ apply i
-    → ((a : Applied) × (x .answer ≡ applied a)) ⊎ ((x .answer ≡ no (of-site NoneReady)) ⊎ (x .answer ≡ no (of-site OtherTables)))
+      → ((a : Applied) × (x .answer ≡ applied a)) ⊎ ((x .answer ≡ no (of-site NoneReady)) ⊎ (x .answer ≡ no (of-site OtherTables)))
 
 -- ready is a word of the site's state: the item of the write of step s, as it lies in the list
 abbrev pub Item-of : {V : Type 0} → List (Step V) → ℕ → WaitingUpdate → Type 0
@@ -113,8 +113,8 @@ Item-of {V} h s u = (r : ℕ) × (v : V) × Writes h s (u .sender) (u .number) r
 
 pub record Ready-when-due {V : Type 0} (k : Kind V) (p : Placed) (w : Rack) (cs : List (Call V)) : Type 0 where
   pub ready : (t i s x : ℕ) → t ≤ length cs → Waits p (history k p w cs) t i s x → (u : WaitingUpdate)
-    → List·Memᴰ u (waiting-updates (at (rack-after k p w (take t cs)) i)) → Item-of (history k p w cs) s u
-    → (ready-update (at (rack-after k p w (take t cs)) i) u ≡ true) ↔ Past-applied p (history k p w cs) t i s
+      → List·Memᴰ u (waiting-updates (at (rack-after k p w (take t cs)) i)) → Item-of (history k p w cs) s u
+      → (ready-update (at (rack-after k p w (take t cs)) i) u ≡ true) ↔ Past-applied p (history k p w cs) t i s
   pub oldest : Takes-the-oldest k p (history k p w cs)
   pub none : None-is-due k p (history k p w cs)
   pub only : Applies-or-none k p (history k p w cs)

@@ -12,10 +12,10 @@
 --
 -- Assumes nothing.
 use mathlib.Core.Path.{_≡_}
-use mathlib.Core.Bool.{Bool, true, false, cond}
-use mathlib.Core.List.{List, [], _∷_, _++_}
-use Prim.Native.Nat.{ℕ, zero, suc, _+_, _<_}
-use lib.Dec.{eqb, ltb}
+use mathlib.Core.Bool.{cond}
+use mathlib.Core.List.{List, [], _∷_}
+use Prim.Native.Nat.{ℕ, zero, suc, _<_}
+use lib.Dec.{eqb}
 use lib.ListN.{length, take, getD, set, replicate}
 use Rattle.std.specs.declared.option.Option.{Option}
 use Rattle.std.specs.declared.option.Option.the-variants.{Some, None}
@@ -24,7 +24,6 @@ use Rattle.std.specs.declared.result.Result.the-variants.{Ok, Err}
 use Rattle.values.specs.Kinds.{Kind}
 use Rattle.values.specs.declared.fault.Fault.{Fault}
 use Rattle.protocol.specs.States.{Placed, State, Session, Outcome}
-use Rattle.protocol.specs.Words.{no-copy}
 use Rattle.protocol.specs.Opening.{opened}
 use Rattle.protocol.specs.Writing.{Written, write-rule}
 use Rattle.protocol.specs.Reading.{Read, read-rule}

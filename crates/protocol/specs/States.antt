@@ -1,6 +1,7 @@
 -- What a site keeps, and what the rules of its calls take and give.
 --
 --   Placed        a placement with homes, as the rules see it: site count, register count, who holds what, whom a reader asks
+--   placed        the placement of these numbers and functions
 --   Lawful-placed the laws of a placement with homes
 --   State         one site: the numbers of its core, and its three tables whole
 --   Session       the numbers that a session carries
@@ -28,6 +29,9 @@ pub record Placed : Type 0 where
   pub held : ℕ → ℕ → Bool
   -- the site that reader l asks for register r
   pub home : ℕ → ℕ → ℕ
+
+abbrev pub placed : ℕ → ℕ → (ℕ → ℕ → Bool) → (ℕ → ℕ → ℕ) → Placed
+placed n R held home = record { sites = n; registers = R; held = held; home = home }
 
 pub record Lawful-placed (p : Placed) : Type 0 where
   pub few : (2 ≤ p .sites) × (p .sites ≤ 8)

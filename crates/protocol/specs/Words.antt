@@ -13,8 +13,7 @@
 --   shows z s               the session's numbers are the site's
 --
 -- Assumes nothing.
-use mathlib.Core.Path.{_≡_}
-use mathlib.Core.Bool.{Bool, true, false, not, cond, _&&_}
+use mathlib.Core.Bool.{Bool, true, false, not, _&&_}
 use mathlib.Core.List.{List, [], _∷_}
 use Prim.Native.Nat.{ℕ, _*_}
 use lib.Dec.{eqb, ltb, leb}
@@ -89,7 +88,7 @@ abbrev pub update-ok : {V : Type 0} → Kind V → State → WaitingUpdate → B
 update-ok k s u =
     (ltb (u .sender) (s .sites) && ltb (u .register) (s .registers))
     && ((number-ok (u .number) && within (s .sites * s .sites) (u .matrix .counts))
-        && (sound k (u .bits .bytes) && ltb 0 (count-here u (s .sites) (s .site))))
+    && (sound k (u .bits .bytes) && ltb 0 (count-here u (s .sites) (s .site))))
 
 abbrev pub fetch-ok : State → WaitingFetch → Bool
 fetch-ok s f =

@@ -6,15 +6,13 @@
 --   write-rule   refused with 2, 3, 4, 5, 6, 18 in this order
 --
 -- Assumes nothing.
-use mathlib.Core.Bool.{Bool, true, false, not, cond, _&&_, _||_}
-use mathlib.Core.List.{List, [], _∷_, _++_}
-use Prim.Native.Nat.{ℕ, _+_, _-_, _*_}
+use mathlib.Core.Bool.{Bool, not, cond, _&&_, _||_}
+use mathlib.Core.List.{List}
+use Prim.Native.Nat.{ℕ, _+_}
 use lib.Dec.{eqb, ltb, leb}
-use lib.ListN.{length, take, drop, getD, set, replicate}
-use Rattle.std.specs.declared.option.Option.{Option}
-use Rattle.std.specs.declared.option.Option.the-variants.{Some, None}
-use Rattle.std.specs.declared.result.Result.{Result}
-use Rattle.std.specs.declared.result.Result.the-variants.{Ok, Err}
+use lib.ListN.{length, getD, set}
+use Rattle.std.specs.declared.option.Option.the-variants.{Some}
+use Rattle.std.specs.declared.result.Result.the-variants.{Ok}
 use Rattle.clocks.specs.Counts.{limit}
 use Rattle.clocks.specs.Matrices.{raised, room}
 use Rattle.clocks.specs.Rows.{raised-at}
@@ -68,9 +66,9 @@ after-write k p s r v = record {
   updates-waiting = s .updates-waiting;
   fetches-waiting = s .fetches-waiting;
   copies =
-    cond (bound-for p r (s .site))
-    (set (s .copies) r (record { bits = record { bytes = plain-bytes k v }; matrix = record { counts = grown p s r }; label = Some (s .site, s .written + 1) }))
-    (s .copies);
+      cond (bound-for p r (s .site))
+      (set (s .copies) r (record { bits = record { bytes = plain-bytes k v }; matrix = record { counts = grown p s r }; label = Some (s .site, s .written + 1) }))
+      (s .copies);
   updates = s .updates;
   fetches = s .fetches;
 }

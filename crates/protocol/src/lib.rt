@@ -1,1 +1,3 @@
-// The rules of every call, as definitions (specs/). The calls of a site are proved equal to them.
+// The rules of every call, as definitions (specs/), and the promises that every run of them keeps. The calls of a site are proved equal to
+// the rules; here is hardly any code.
+pub mod promises;

@@ -39,6 +39,7 @@ use Rattle.protocol.specs.Writing.{Written, write-rule, written-to, can-write,
 use Rattle.protocol.specs.Reading.{Read, read-rule, value-of, copy-read-ok, merged-with}
 use Rattle.protocol.specs.Applying.{Applied, ready-update, no-update, apply-rule, apply-first, applied-at, after-apply}
 use Rattle.protocol.specs.Replying.{take-rule, taken-reply, reply-for-here, of-the-fetch}
+use Rattle.protocol.proofs.Values.{plain-taken}
 
 -- two answers that differ
 
@@ -138,27 +139,12 @@ bytes-same (x ∷ xs) (y ∷ ys) h =
     let b = bytes-same xs ys (and-right (eqb x y) (same-bytes xs ys) h) in
     cc
 
-plain-length : {V : Type 0} (k : Kind V) → Lawful k → (v : V) → length (plain k v) ≡ 8 * 32
-unfolding plain
-plain-length k law v =
-    let a = law .sized v in
-    let b = law .high in
-    let c = length-replicate (256 - k .width) false in
-    let d = length-append (k .bits v) (replicate (256 - k .width) false) in
-    omega arith
-
-pub taken-plain : {V : Type 0} (k : Kind V) → Lawful k → (v : V) → taken k (plain-bytes k v) ≡ k .bits v
-unfolding taken plain
-taken-plain k law v =
-    ap (take (k .width)) (bits-back 32 (plain k v) (plain-length k law v))
-    ∙ ap (λ n. take n (k .bits v ++ replicate (256 - k .width) false)) (sym (law .sized v)) ∙ take-append-seam (k .bits v) (replicate (256 - k .width) false)
-
 -- sound bytes that read as v are v's
 pub sound-taken : {V : Type 0} (k : Kind V) → Lawful k → (bytes : List ℕ) (v : V) → sound k bytes ≡ true → k .read (taken k bytes) ≡ Ok v → taken k bytes ≡ k .bits v
 sound-taken k law bytes v h e =
     let a : written-so k bytes (Ok v) ≡ true = subst (λ r. written-so k bytes r ≡ true) e h in
     let b = bytes-same (plain-bytes k v) bytes a in
-    ap (taken k) (sym b) ∙ taken-plain k law v
+    ap (taken k) (sym b) ∙ plain-taken k law v
 
 -- a label as the model has it: none has number 0, and a write's is at least 1
 abbrev pub Labelled : Option (ℕ × ℕ) → ℕ → ℕ → Type 0

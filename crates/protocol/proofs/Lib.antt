@@ -30,6 +30,5 @@ pub mod Accepted
 pub mod Steps
 pub mod Meanings
 pub mod Orders
-pub mod ReadyItems
 pub mod Promised
 pub mod EveryRun

@@ -1,12 +1,13 @@
 -- Lists of items: what a search finds, what taking one out leaves, and what holds of every item seen through a view.
-use mathlib.Core.Path.{_≡_, refl, ap, _∙_}
-use mathlib.Core.Bool.{Bool, true, false, not}
-use mathlib.Core.List.{List, [], _∷_, _++_, map}
+use mathlib.Core.Path.{_≡_, refl, ap, _∙_, subst}
+use mathlib.Core.Bool.{Bool, true, false, not, cond}
+use mathlib.Core.List.{List, [], _∷_, _++_, map, List·Memᴰ, List·Memᴰ·not-nil, List·Memᴰ·cases-cons}
 use mathlib.Core.Logic.{_⊎_, inl, inr}
 use Prim.Native.Nat.{ℕ, zero, suc, _+_, _<_, _≤_}
 use native.Mathlib.Omega.{arith}
 use lib.ListN.{length, take, drop, getD}
-use Rattle.std.specs.declared.option.Option.the-variants.{Some}
+use Rattle.std.proofs.shelf.Lists.{length-take, getD-take}
+use Rattle.std.specs.declared.option.Option.the-variants.{Some, None}
 use Rattle.waiting.specs.Queues.{first-where}
 use Rattle.protocol.specs.Words.{every-item, no-item}
 use Rattle.protocol.proofs.Model.{In, All}
@@ -133,3 +134,29 @@ pub in-map : {A B : Type 0} (v : A → B) (z : A) (xs : List A) → In z xs → 
 in-map v z [] h = absurd h
 in-map v z (x ∷ xs) (inl q) = inl (ap v q)
 in-map v z (x ∷ xs) (inr h) = inr (in-map v z xs h)
+
+pub member-in : {A : Type 0} (x : A) (xs : List A) → List·Memᴰ x xs → In x xs
+member-in x [] h = List·Memᴰ·not-nil h
+member-in x (y ∷ ys) h = elim (List·Memᴰ·cases-cons h) [ inl q ↦ inl q | inr q ↦ inr (member-in x ys q) ]
+
+pub map-in : {A B : Type 0} (f : A → B) (b : B) (xs : List A) → In b (map f xs) → (x : A) × In x xs × (b ≡ f x)
+map-in f b [] h = absurd h
+map-in f b (y ∷ ys) (inl h) = (y, inl refl, h)
+map-in f b (y ∷ ys) (inr h) = let r = map-in f b ys h in (r .0, inr (r .1), r .2)
+
+-- what is found among the first n items is one of them
+pub found-in : {A : Type 0} (f : A → Bool) (xs : List A) (n j : ℕ) (d : A) → first-where f 0 (take n xs) ≡ Some j → In (getD xs j d) (take n xs)
+found-in f xs n j d h =
+    let a = found-within f 0 j (take n xs) h in
+    let b = length-take n xs in
+    subst (λ x. In x (take n xs)) (getD-take n xs j d (omega (arith, a .1))) (in-around (take n xs) j d (omega (arith, a .1)))
+
+-- where nothing is found, nothing passes
+pub none-found : {A : Type 0} (f : A → Bool) (k : ℕ) (xs : List A) → first-where f k xs ≡ None → (x : A) → In x xs → f x ≡ true → ⊥
+none-found f k [] h x i t = i
+none-found {A} f k (y ∷ ys) h x i t = go (f y) refl h i (none-found f (suc k) ys)
+  where
+    go : (b : Bool) → f y ≡ b → cond b (Some k) (first-where f (suc k) ys) ≡ None → (x ≡ y) ⊎ In x ys → (first-where f (suc k) ys ≡ None → (x : A) → In x ys → f x ≡ true → ⊥) → ⊥
+    go true q h i ih = let z : _≡_ {A = ℕ} 0 1 = cc in omega arith
+    go false q h (inl i) ih = let s : f x ≡ f y = ap f i in let z : _≡_ {A = ℕ} 0 1 = cc in omega arith
+    go false q h (inr i) ih = ih h x i t

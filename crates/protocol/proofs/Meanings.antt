@@ -38,6 +38,7 @@ use Rattle.protocol.proofs.Model.{Config, Write, Ask, Waiting, Way, Event, wor
 use Rattle.protocol.proofs.ModelBasics.{set-cases}
 use Rattle.protocol.proofs.ModelOrder.{may-take}
 use Rattle.protocol.proofs.Views.{config, events, when-ok, wrote-view, asked-view, copy-view, update-view, applied-event, replied-event, reply-sent-view, reply-ask}
+use Rattle.protocol.proofs.Values.{same-value}
 use Rattle.protocol.proofs.Faithful.{Faithful}
 use Rattle.protocol.proofs.Accepted.{Labelled, took, reply-taken}
 use Rattle.protocol.proofs.Steps.{at-step, same-step, Shown, as-wrote, as-local, as-fetched, as-applied, as-asked, shown}
@@ -99,15 +100,6 @@ pair-left h = ap (λ x. x .0) h
 
 pub pair-right : {a b c d : ℕ} → _≡_ {A = ℕ × ℕ} (a, b) (c, d) → b ≡ d
 pair-right h = ap (λ x. x .1) h
-
--- a value is known by the number of its bits
-pub same-value : {V : Type 0} (k : Kind V) → Lawful k → (v u : V) → num (k .bits v) ≡ num (k .bits u) → v ≡ u
-same-value k kl v u h =
-    let a : k .bits v ≡ k .bits u = sym (bits-num (k .bits v)) ∙ ap (λ n. bits (length (k .bits v)) n) h ∙ ap (λ n. bits n (num (k .bits u))) (kl .sized v ∙ sym (kl .sized u)) ∙ bits-num (k .bits u) in
-    let b = kl .back v in
-    let c = kl .back u in
-    let d : Ok v ≡ Ok u = sym b ∙ ap (k .read) a ∙ c in
-    cc
 
 module _ {V : Type 0} (k : Kind V) (kl : Lawful k) (p : Placed) (law : Lawful-placed p) (w : Rack) (cs : List (Call V)) (f : Faithful k p law w cs) where
   abbrev pub H : List (Step V)

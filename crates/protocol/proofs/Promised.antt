@@ -44,8 +44,10 @@ use Rattle.protocol.proofs.Views.{config, events, update-view}
 use Rattle.protocol.proofs.Faithful.{Faithful}
 use Rattle.protocol.proofs.Accepted.{apply-ends}
 use Rattle.protocol.proofs.Steps.{at-step}
-use Rattle.protocol.proofs.ReadyItems.{ready-there, ready-back, member-in, in-map, map-in, found-in, none-passes}
-use Rattle.protocol.proofs.Meanings.{As-read, apply-event, write-event, event-write, read-event, local-read, same-value}
+use Rattle.protocol.proofs.Readiness.{ready-there, ready-back}
+use Rattle.protocol.proofs.Lists.{member-in, in-map, map-in, found-in, none-found}
+use Rattle.protocol.proofs.Meanings.{As-read, apply-event, write-event, event-write, read-event, local-read}
+use Rattle.protocol.proofs.Values.{same-value}
 use Rattle.protocol.proofs.Orders.{labelled-none, labelled-some, none-labelled, some-labelled, numbered, before-event, applies-event, event-applies, write-applied, past-event, event-past, waits-event, event-waits}
 
 lt-holds : (a b : ℕ) → a < b → ltb a b ≡ true
@@ -237,7 +239,7 @@ module _ {V : Type 0} (k : Kind V) (kl : Lawful k) (p : Placed) (law : Lawful-pl
   none-due t i l q s u d =
       let y = due-there t i s u d in
       let a = map-in (update-view k (p .sites)) (y .write) (waiting-updates (S t i)) (subst (λ xs. model.In (y .write) xs) (f .waiting t i l) (y .within)) in
-      none-passes (ready-update (S t i)) 0 (waiting-updates (S t i)) q (a .0) (a .1) (model-ready t i (a .0) l (subst (λ x. model.Ready g (model.world g e t) i x) (a .2) (y .ready)))
+      none-found (ready-update (S t i)) 0 (waiting-updates (S t i)) q (a .0) (a .1) (model-ready t i (a .0) l (subst (λ x. model.Ready g (model.world g e t) i x) (a .2) (y .ready)))
 
   -- the count of what is found is below the limit
   found-roomy : (t i j : ℕ) → i < p .sites → first-where (ready-update (S t i)) 0 (waiting-updates (S t i)) ≡ Some j →

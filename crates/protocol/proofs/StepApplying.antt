@@ -31,7 +31,7 @@ use Rattle.protocol.proofs.ModelBasics.{set-same, set-other}
 use Rattle.protocol.proofs.Views.{config, view, row-view, copy-view, update-view, fetch-view, applied-event, served-event}
 use Rattle.protocol.proofs.Agreement.{Good-copy, Good-update, Good-fetch, Sound, Agrees, by-apply, by-serve}
 use Rattle.protocol.proofs.Lists.{in-take, in-drop, in-either, around, in-around, found-within, found-passes, found-first, all-map-in, map-append}
-use Rattle.protocol.proofs.Readiness.{need-is, ready-at, not-ready, row-in}
+use Rattle.protocol.proofs.Readiness.{ready-at, not-ready, row-in, ready-there, unready-there}
 use Rattle.protocol.proofs.Stepping.{Stepped, Ends, stepped-refused, need-ends, given-ends, set-at, raised-agrees}
 
 -- a list around a place of the table that holds it
@@ -43,23 +43,21 @@ module _ {V : Type 0} (k : Kind V) (p : Placed) (law : Lawful-placed p) (cu cf :
   n8 = subst (λ n. n ≤ 8) (sym (ok .sites)) (law .few .1)
 
   -- readiness in the model, of an update that lies in the list
-  pub ready-means : (u : WaitingUpdate) → u .sender < s .sites → ready-update s u ≡ true → model.Ready (config k p law) w (s .site) (update-view k (s .sites) u)
-  ready-means u h r a b =
-      ready-at (s .sites) (s .applied) (update-need u (s .sites) (s .site)) (w .applies (s .site)) (λ a. cond (eqb a (u .sender)) (view (s .sites) (u .matrix .counts) a (s .site) - 1) (view (s .sites) (u .matrix .counts) a (s .site)))
-      (agree .applies) (λ a c. need-is (s .sites) (u .matrix .counts) (s .site) (u .sender) a n8 (ok .site) h c) r a (subst (λ x. a < x) (sym (ok .sites)) b)
+  pub ready-means : (u : WaitingUpdate) → ready-update s u ≡ true → model.Ready (config k p law) w (s .site) (update-view k (s .sites) u)
+  ready-means u r a b =
+      ready-there k (config k p law) (s .sites) u (s .site) (s .applied) (w .applies (s .site)) n8 (ok .site) (λ l _. agree .applies l) r a (subst (λ x. a < x) (sym (ok .sites)) b)
 
-  pub unready-means : (u : WaitingUpdate) → u .sender < s .sites → ready-update s u ≡ false → model.Ready (config k p law) w (s .site) (update-view k (s .sites) u) → ⊥
-  unready-means u h r q =
-      not-ready (s .sites) (s .applied) (update-need u (s .sites) (s .site)) (w .applies (s .site)) (λ a. cond (eqb a (u .sender)) (view (s .sites) (u .matrix .counts) a (s .site) - 1) (view (s .sites) (u .matrix .counts) a (s .site)))
-      (agree .applies) (λ a c. need-is (s .sites) (u .matrix .counts) (s .site) (u .sender) a n8 (ok .site) h c) r (λ a b. q a (subst (λ x. a < x) (ok .sites) b))
+  pub unready-means : (u : WaitingUpdate) → ready-update s u ≡ false → model.Ready (config k p law) w (s .site) (update-view k (s .sites) u) → ⊥
+  unready-means u r q =
+      unready-there k (config k p law) (s .sites) u (s .site) (s .applied) (w .applies (s .site)) n8 (ok .site) (λ l _. agree .applies l) r (λ a b. q a (subst (λ x. a < x) (ok .sites) b))
 
   served-means : (f : WaitingFetch) → ready-fetch s f ≡ true → model.Served-ready (config k p law) w (fetch-view (s .sites) (s .site) f)
   served-means f r a b =
-      ready-at (s .sites) (s .applied) (f .column .counts) (w .applies (s .site)) (row-view (s .sites) (f .column .counts)) (agree .applies) (λ a c. row-in (s .sites) (f .column .counts) a c) r a (subst (λ x. a < x) (sym (ok .sites)) b)
+      ready-at (s .sites) (s .applied) (f .column .counts) (w .applies (s .site)) (row-view (s .sites) (f .column .counts)) (λ a _. agree .applies a) (λ a c. row-in (s .sites) (f .column .counts) a c) r a (subst (λ x. a < x) (sym (ok .sites)) b)
 
   unserved-means : (f : WaitingFetch) → ready-fetch s f ≡ false → model.Served-ready (config k p law) w (fetch-view (s .sites) (s .site) f) → ⊥
   unserved-means f r q =
-      not-ready (s .sites) (s .applied) (f .column .counts) (w .applies (s .site)) (row-view (s .sites) (f .column .counts)) (agree .applies) (λ a c. row-in (s .sites) (f .column .counts) a c) r (λ a b. q a (subst (λ x. a < x) (ok .sites) b))
+      not-ready (s .sites) (s .applied) (f .column .counts) (w .applies (s .site)) (row-view (s .sites) (f .column .counts)) (λ a _. agree .applies a) (λ a c. row-in (s .sites) (f .column .counts) a c) r (λ a b. q a (subst (λ x. a < x) (ok .sites) b))
 
   -- applying the update at place j
 
@@ -109,10 +107,10 @@ module _ {V : Type 0} (k : Kind V) (p : Placed) (law : Lawful-placed p) (cu cf :
       may = record {
         site = subst (λ x. s .site < x) (ok .sites) (ok .site);
         waits = agree .updates ∙ ap (map (update-view k (s .sites))) split ∙ map-append (update-view k (s .sites)) front (u ∷ back);
-        ready = ready-means u (good .sender) (subst (λ x. ready-update s x ≡ true) item (found-passes (ready-update s) no-update 0 j (waiting-updates s) found-0));
+        ready = ready-means u (subst (λ x. ready-update s x ≡ true) item (found-passes (ready-update s) no-update 0 j (waiting-updates s) found-0));
         oldest =
             all-map-in (update-view k (s .sites)) (λ x. ready-update s x ≡ false) (λ y. model.Ready (config k p law) w (s .site) y → ⊥) front
-            (λ x i r. unready-means x (ok .updates x (in-take x j (waiting-updates s) i) .sender) r) (found-first (ready-update s) 0 j (waiting-updates s) found-0);
+            (λ x i r. unready-means x r) (found-first (ready-update s) 0 j (waiting-updates s) found-0);
       };
       changes = by-apply;
       kept = refl;

@@ -32,3 +32,4 @@ pub mod Meanings
 pub mod Orders
 pub mod Promised
 pub mod EveryRun
+pub mod WorkedRuns

@@ -11,3 +11,4 @@ pub mod Replying
 pub mod Runs
 pub mod Causality
 pub mod Promises
+pub mod Worked

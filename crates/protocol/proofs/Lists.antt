@@ -1,7 +1,7 @@
 -- Lists of items: what a search finds, what taking one out leaves, and what holds of every item seen through a view.
 use mathlib.Core.Path.{_≡_, refl, ap, _∙_, subst}
 use mathlib.Core.Bool.{Bool, true, false, not, cond}
-use mathlib.Core.List.{List, [], _∷_, _++_, map, List·Memᴰ, List·Memᴰ·not-nil, List·Memᴰ·cases-cons}
+use mathlib.Core.List.{List, [], _∷_, _++_, map, List·Memᴰ, List·Memᴰ·head, List·Memᴰ·tail, List·Memᴰ·not-nil, List·Memᴰ·cases-cons}
 use mathlib.Core.Logic.{_⊎_, inl, inr}
 use Prim.Native.Nat.{ℕ, zero, suc, _+_, _<_, _≤_}
 use native.Mathlib.Omega.{arith}
@@ -138,6 +138,11 @@ in-map v z (x ∷ xs) (inr h) = inr (in-map v z xs h)
 pub member-in : {A : Type 0} (x : A) (xs : List A) → List·Memᴰ x xs → In x xs
 member-in x [] h = List·Memᴰ·not-nil h
 member-in x (y ∷ ys) h = elim (List·Memᴰ·cases-cons h) [ inl q ↦ inl q | inr q ↦ inr (member-in x ys q) ]
+
+pub in-member : {A : Type 0} (x : A) (xs : List A) → In x xs → List·Memᴰ x xs
+in-member x [] h = absurd h
+in-member x (y ∷ ys) (inl q) = List·Memᴰ·head q
+in-member x (y ∷ ys) (inr h) = List·Memᴰ·tail (in-member x ys h)
 
 pub map-in : {A B : Type 0} (f : A → B) (b : B) (xs : List A) → In b (map f xs) → (x : A) × In x xs × (b ≡ f x)
 map-in f b [] h = absurd h

@@ -11,7 +11,7 @@
 use mathlib.Core.Path.{_≡_, refl, sym, ap, subst, _∙_}
 use mathlib.Core.List.{List, map}
 use mathlib.Core.Option.{Option as Maybe, none, some}
-use Prim.Native.Nat.{ℕ, zero, suc, _<_}
+use Prim.Native.Nat.{ℕ, zero, suc, _+_, _<_}
 use native.Mathlib.Omega.{arith}
 use native.Mathlib.Decide.{decLt}
 use lib.ListN.{length, take, drop, getD}
@@ -26,7 +26,7 @@ use Rattle.frames.specs.Reading.{reply-read}
 use Rattle.waiting.specs.Queues.{first-where}
 use Rattle.protocol.specs.States.{Placed, Lawful-placed, State, Session}
 use Rattle.protocol.specs.Words.{waiting-updates, copy-of}
-use Rattle.protocol.specs.Writing.{write-rule}
+use Rattle.protocol.specs.Writing.{Written, write-rule}
 use Rattle.protocol.specs.Reading.{Read, read-rule}
 use Rattle.protocol.specs.Fetching.{Begun, fetch-rule}
 use Rattle.protocol.specs.Applying.{Applied, ready-update, no-update, apply-rule}
@@ -40,7 +40,7 @@ use Rattle.protocol.proofs.ModelOrder.{may-take}
 use Rattle.protocol.proofs.Views.{config, events, when-ok, wrote-view, asked-view, copy-view, update-view, applied-event, replied-event, reply-sent-view, reply-ask}
 use Rattle.protocol.proofs.Values.{same-value}
 use Rattle.protocol.proofs.Faithful.{Faithful}
-use Rattle.protocol.proofs.Accepted.{Labelled, took, reply-taken}
+use Rattle.protocol.proofs.Accepted.{Labelled, write-label, took, reply-taken}
 use Rattle.protocol.proofs.Steps.{at-step, same-step, Shown, as-wrote, as-local, as-fetched, as-applied, as-asked, shown}
 
 -- the latest fetch
@@ -147,6 +147,18 @@ module _ {V : Type 0} (k : Kind V) (kl : Lawful k) (p : Placed) (law : Lawful-pl
       let b = event-write t (wrote-view k p (S t i) r v) e in
       let c = writes-alike t _ i _ m _ r (b .0) v (b .1) a in
       record { write = wrote-view k p (S t i) r v; event = e; by = c .0; number = c .1; register = c .2; value = refl }
+
+  -- an accepted write has its site in its label
+  pub labelled-write : (t i r : ℕ) (z : Session) (v : V) (place after : List ℕ) (a : Written) → Step-at H t (record { call = Call.write i z r v place; answer = Answer.written a after }) →
+      (m : ℕ) × Writes H t i m r v
+  labelled-write t i r z v place after a st =
+      let s = at-step k p w cs t _ st in
+      let o = told-ok Answer.written (write-rule k p (S t i) z r v place .answer) (write-rule k p (S t i) z r v place .place) (Answer.written a after)
+      (λ x q. let z : _≡_ {A = ℕ} 0 1 = cc in omega arith) (s .0) in
+      let u = o .2 in
+      let q : a ≡ o .0 = cc in
+      let l : a .label ≡ (i, S t i .written + 1) = ap (λ x. x .label) q ∙ write-label k p (S t i) z r v place (o .0) (o .1) ∙ ap (λ j. (j, S t i .written + 1)) (f .site-is t i (f .sited t _ st)) in
+      (S t i .written + 1, record { session = z; place = place; after = after; answer = a; step = st; label = l })
 
   -- fetches
 
@@ -306,6 +318,10 @@ module _ {V : Type 0} (k : Kind V) (kl : Lawful k) (p : Placed) (law : Lawful-pl
       let e : E t ≡ reads (S t i .site) x (Way.fetched (reply-ask (m .message))) =
       s .1 ∙ ap (λ y. when-ok y (replied-event k (S t i) (reply-read k bytes))) (o .1) ∙ ap (λ y. replied-event k (S t i) y) (m .reads) in
       (x, reply-ask (m .message), subst (λ j. E t ≡ reads j x (Way.fetched (reply-ask (m .message)))) (f .site-is t i (f .sited t _ st)) e)
+
+  -- a reply that is taken is of the latest fetch
+  pub taken-fetching : (t i : ℕ) (z : Session) (bytes : List ℕ) (a : Read V) → Step-at H t (record { call = take-reply i z bytes; answer = replied a }) → (r : ℕ) × Fetching H t i r
+  taken-fetching t i z bytes a st = let u = taken-event t i z bytes a st in (u .1 .reg, fetching t i (u .0) (u .1) (u .2))
 
   pub read-event : (t i r : ℕ) (v : V) (label : Option (ℕ × ℕ)) → Reads H t i r v label → As-read t i r v label
   read-event t i r v label (local z st) =

@@ -31,11 +31,12 @@ use Rattle.protocol.specs.Words.{waiting-updates}
 use Rattle.protocol.specs.Applying.{Applied, ready-update, no-update, after-apply, applied-at, apply-rule}
 use Rattle.protocol.specs.Runs.{Call, Answer, Step, Step-at, Rack, apply, no, applied, at, told-so, step, site-of, rack-after, history}
 use Rattle.protocol.specs.Causality.{Writes, local, Applies, Waits, Past-applied}
-use Rattle.protocol.specs.Promises.{Only-what-is-bound, Once, In-causal-order, Last-applied, None-applied, Local-reads-answer-the-last, Applied-in-causal-order, Answers-a-write, Never-overtaken, No-stale-reads, Due, Takes-the-oldest, None-is-due, Applies-or-none, Item-of, Ready-when-due, Promised}
+use Rattle.protocol.specs.Promises.{Labels-name-writes, Only-what-is-bound, Once, In-causal-order, Last-applied, None-applied, Local-reads-answer-the-last, Applied-in-causal-order, Answers-a-write, Never-overtaken, No-stale-reads, Due, Takes-the-oldest, None-is-due, Applies-or-none, Item-of, Ready-when-due, Promised}
 use Rattle.protocol.proofs.Model as model
 use Rattle.protocol.proofs.Model.{Config, Write, Event, wrote}
 use Rattle.protocol.proofs.ModelCausal as causal
 use Rattle.protocol.proofs.ModelBasics.{in-mid, all-in}
+use Rattle.protocol.proofs.ModelClocks.{label-once}
 use Rattle.protocol.proofs.ModelKnown.{known}
 use Rattle.protocol.proofs.ModelCore.{same-write, applies-known, may-apply}
 use Rattle.protocol.proofs.ModelArrivals.{waits-in, older-front}
@@ -45,8 +46,8 @@ use Rattle.protocol.proofs.Faithful.{Faithful}
 use Rattle.protocol.proofs.Accepted.{apply-ends}
 use Rattle.protocol.proofs.Steps.{at-step}
 use Rattle.protocol.proofs.Readiness.{ready-there, ready-back}
-use Rattle.protocol.proofs.Lists.{member-in, in-map, map-in, found-in, none-found}
-use Rattle.protocol.proofs.Meanings.{As-read, apply-event, write-event, event-write, read-event, local-read}
+use Rattle.protocol.proofs.Lists.{member-in, in-member, in-map, map-in, found-in, none-found}
+use Rattle.protocol.proofs.Meanings.{As-read, apply-event, write-event, event-write, labelled-write, read-event, taken-fetching, local-read}
 use Rattle.protocol.proofs.Values.{same-value}
 use Rattle.protocol.proofs.Orders.{labelled-none, labelled-some, none-labelled, some-labelled, numbered, before-event, applies-event, event-applies, write-applied, past-event, event-past, waits-event, event-waits}
 
@@ -156,11 +157,20 @@ module _ {V : Type 0} (k : Kind V) (kl : Lawful k) (p : Placed) (law : Lawful-pl
             },
           )
 
+  pub labels-name-writes : Labels-name-writes k p h
+  labels-name-writes = record {
+    labelled = labelled-write k kl p law w cs f;
+    distinct = λ s t i m r q v u a b.
+        let x = write-event k kl p law w cs f s i m r v a in
+        let y = write-event k kl p law w cs f t i m q u b in
+        label-once g e (f .run) s t (x .write) (y .write) (x .event) (y .event) (x .by ∙ sym (y .by)) (x .number ∙ sym (y .number));
+  }
+
   pub applied-in-causal-order : Applied-in-causal-order k p (history k p w cs)
   applied-in-causal-order = record { bound = bound; once = once; ordered = ordered; last = last }
 
   pub no-stale-reads : No-stale-reads k p (history k p w cs)
-  no-stale-reads = record { answers = answers; fresh = fresh }
+  no-stale-reads = record { counted = taken-fetching k kl p law w cs f; answers = answers; fresh = fresh }
 
   -- Ready exactly when due.
 
@@ -196,6 +206,15 @@ module _ {V : Type 0} (k : Kind V) (kl : Lawful k) (p : Placed) (law : Lawful-pl
       let es : e s ≡ wrote (update-view k (p .sites) u) = o .event ∙ ap wrote y in
       let r = consistent .ready t i s (update-view k (p .sites) u) es inx in
       (λ a. event-past k kl p law w cs f t i s (r .0 (ready-model t i u l a)), λ b. model-ready t i u l (r .1 (past-event k kl p law w cs f t i s b)))
+
+  listed : (t i s x : ℕ) → t ≤ length cs → Waits p h t i s x → (u : WaitingUpdate) × List·Memᴰ u (waiting-updates (S t i)) × Item-of h s u
+  listed t i s x _ wt =
+      let l = f .sited x _ (wt .receives .step) in
+      let o = write-event k kl p law w cs f s _ _ _ _ (wt .receives .write) in
+      let inx = waits-in g e (f .run) t i (o .write) x (waits-event k kl p law w cs f t i s x (o .write) (o .event) wt) in
+      let a = map-in (update-view k (p .sites)) (o .write) (waiting-updates (S t i)) (subst (λ xs. model.In (o .write) xs) (f .waiting t i l) inx) in
+      let c = event-write k kl p law w cs f s (update-view k (p .sites) (a .0)) (o .event ∙ ap wrote (a .2)) in
+      (a .0, in-member (a .0) (waiting-updates (S t i)) (a .1), (_, c .0, c .1))
 
   -- what is due waits in the model, and is ready there
   record Due-there (t i u : ℕ) : Type 0 where
@@ -280,8 +299,8 @@ module _ {V : Type 0} (k : Kind V) (kl : Lawful k) (p : Placed) (law : Lawful-pl
   only t i x st q = elim (ends t i x st q) [ inl u ↦ inr (inr u) | inr (inl u) ↦ inr (inl (u .1)) | inr (inr u) ↦ inl u ]
 
   pub ready-when-due : Ready-when-due k p w cs
-  ready-when-due = record { ready = ready; oldest = oldest; none = none; only = only }
+  ready-when-due = record { listed = listed; ready = ready; oldest = oldest; none = none; only = only }
 
 -- every faithful history keeps the promises
 pub promised : {V : Type 0} (k : Kind V) → Lawful k → (p : Placed) (law : Lawful-placed p) (w : Rack) (cs : List (Call V)) → Faithful k p law w cs → Promised k p w cs
-promised k kl p law w cs f = record { ordered = applied-in-causal-order k kl p law w cs f; fresh = no-stale-reads k kl p law w cs f; ready = ready-when-due k kl p law w cs f }
+promised k kl p law w cs f = record { labels = labels-name-writes k kl p law w cs f; ordered = applied-in-causal-order k kl p law w cs f; fresh = no-stale-reads k kl p law w cs f; ready = ready-when-due k kl p law w cs f }

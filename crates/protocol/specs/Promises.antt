@@ -1,5 +1,6 @@
 -- The three promises, for every run.
 --
+--   Labels-name-writes       what the promises speak of: an accepted write has its writer in its label, and no two have the same label
 --   Applied-in-causal-order  a site applies only writes bound there, each at most once and after all causally earlier ones bound there; a local read
 --                            answers the last write of its register applied there before, else the start value
 --   No-stale-reads           a read, local or fetched, answers a write of its register or the start value, and never one that another write of that
@@ -24,11 +25,26 @@ use Rattle.values.specs.declared.fault.Refusal.the-variants.{NoneReady, OtherTa
 use Rattle.waiting.specs.declared.items.WaitingUpdate.{WaitingUpdate}
 use Rattle.protocol.specs.States.{Placed, Session}
 use Rattle.protocol.specs.Words.{bound-for, waiting-updates}
+use Rattle.protocol.specs.Writing.{Written}
+use Rattle.protocol.specs.Reading.{Read}
 use Rattle.protocol.specs.Applying.{Applied, ready-update}
-use Rattle.protocol.specs.Runs.{Call, Step, Step-at, Rack, Run, read, apply, no, applied, was-read, at, new-rack, rack-after, history}
-use Rattle.protocol.specs.Causality.{Writes, Reads, Before, Applies, Waits, Past-applied}
+use Rattle.protocol.specs.Runs.{Call, Step, Step-at, Rack, Run, write, read, apply, take-reply, no, written, applied, was-read, replied, at, new-rack, rack-after, history}
+use Rattle.protocol.specs.Causality.{Writes, Reads, Fetching, Before, Applies, Waits, Past-applied}
 
 module _ {V : Type 0} (k : Kind V) (p : Placed) (h : List (Step V)) where
+  -- Labels.
+
+  abbrev pub Labelled-by-the-writer : Type 0
+  Labelled-by-the-writer = (t i r : ℕ) (z : Session) (v : V) (place after : List ℕ) (a : Written) → Step-at h t (record { call = write i z r v place; answer = written a after })
+      → (m : ℕ) × Writes h t i m r v
+
+  abbrev pub No-label-twice : Type 0
+  No-label-twice = (s t i m r q : ℕ) (v u : V) → Writes h s i m r v → Writes h t i m q u → s ≡ t
+
+  pub record Labels-name-writes : Type 0 where
+    pub labelled : Labelled-by-the-writer
+    pub distinct : No-label-twice
+
   -- Applied in causal order.
 
   abbrev pub Only-what-is-bound : Type 0
@@ -69,6 +85,10 @@ module _ {V : Type 0} (k : Kind V) (p : Placed) (h : List (Step V)) where
   Answers-a-write = (t i r : ℕ) (v : V) (label : Option (ℕ × ℕ)) → Reads h t i r v label
       → ((label ≡ None) × (v ≡ k .start)) ⊎ ((s : ℕ) × (w : ℕ) × (m : ℕ) × (s < t) × (label ≡ Some (w, m)) × Writes h s w m r v)
 
+  -- a reply that is taken counts as a read: the site had begun a fetch
+  abbrev pub Replies-are-reads : Type 0
+  Replies-are-reads = (t i : ℕ) (z : Session) (bytes : List ℕ) (a : Read V) → Step-at h t (record { call = take-reply i z bytes; answer = replied a }) → (r : ℕ) × Fetching h t i r
+
   -- a start value is causally before every write of its register
   abbrev pub Followed-by : Option (ℕ × ℕ) → ℕ → Type 0
   Followed-by label s = (label ≡ None) ⊎ ((o : ℕ) × (w : ℕ) × (m : ℕ) × (r : ℕ) × (v : V) × (label ≡ Some (w, m)) × Writes h o w m r v × Before h o s)
@@ -77,6 +97,7 @@ module _ {V : Type 0} (k : Kind V) (p : Placed) (h : List (Step V)) where
   Never-overtaken = (t i r s w m : ℕ) (v u : V) (label : Option (ℕ × ℕ)) → Reads h t i r v label → Writes h s w m r u → Before h s t → Followed-by label s → ⊥
 
   pub record No-stale-reads : Type 0 where
+    pub counted : Replies-are-reads
     pub answers : Answers-a-write
     pub fresh : Never-overtaken
 
@@ -112,6 +133,9 @@ abbrev pub Item-of : {V : Type 0} → List (Step V) → ℕ → WaitingUpdate �
 Item-of {V} h s u = (r : ℕ) × (v : V) × Writes h s (u .sender) (u .number) r v
 
 pub record Ready-when-due {V : Type 0} (k : Kind V) (p : Placed) (w : Rack) (cs : List (Call V)) : Type 0 where
+  -- what waits lies in the list
+  pub listed : (t i s x : ℕ) → t ≤ length cs → Waits p (history k p w cs) t i s x
+      → (u : WaitingUpdate) × List·Memᴰ u (waiting-updates (at (rack-after k p w (take t cs)) i)) × Item-of (history k p w cs) s u
   pub ready : (t i s x : ℕ) → t ≤ length cs → Waits p (history k p w cs) t i s x → (u : WaitingUpdate)
       → List·Memᴰ u (waiting-updates (at (rack-after k p w (take t cs)) i)) → Item-of (history k p w cs) s u
       → (ready-update (at (rack-after k p w (take t cs)) i) u ≡ true) ↔ Past-applied p (history k p w cs) t i s
@@ -120,6 +144,7 @@ pub record Ready-when-due {V : Type 0} (k : Kind V) (p : Placed) (w : Rack) (cs 
   pub only : Applies-or-none k p (history k p w cs)
 
 pub record Promised {V : Type 0} (k : Kind V) (p : Placed) (w : Rack) (cs : List (Call V)) : Type 0 where
+  pub labels : Labels-name-writes k p (history k p w cs)
   pub ordered : Applied-in-causal-order k p (history k p w cs)
   pub fresh : No-stale-reads k p (history k p w cs)
   pub ready : Ready-when-due k p w cs

@@ -33,7 +33,7 @@ use Rattle.protocol.specs.Receiving.{receive-rule}
 use Rattle.protocol.specs.Applying.{ready-update, apply-rule}
 use Rattle.protocol.specs.Serving.{ready-fetch, serve-rule}
 use Rattle.protocol.specs.Replying.{take-rule, abandon-rule}
-use Rattle.protocol.specs.Runs.{Call, Answer, Step, Step-at, first, later, Rack, Run, Given-frame, write, read, fetch, receive, apply, serve, take-reply, abandon, received, new-rack, at, step, site-of, told-so, rack-after, history, frame-of}
+use Rattle.protocol.specs.Runs.{Call, Answer, Step, Step-at, first, later, Rack, Run, Given-frame, write, read, fetch, receive, apply, serve, take-reply, abandon, received, at, step, site-of, told-so, rack-after, history, frame-of}
 use Rattle.protocol.specs.Promises.{Every-run-keeps-the-promises}
 use Rattle.protocol.proofs.Model as model
 use Rattle.protocol.proofs.ModelInvariant.{inv}
@@ -120,10 +120,7 @@ module _ {V : Type 0} (k : Kind V) (p : Placed) (w : Rack) where
   only-receiving (take-reply j z bytes) i x q = absurd (reply-other (at w j) (reply-read k bytes) i x (ok-event (take-rule k p (at w j) z bytes .answer) _ i x q))
   only-receiving (abandon j z) i x q = let e = ok-event (abandon-rule (at w j) z .answer) _ i x q in let y : _≡_ {A = ℕ} 0 1 = cc in absurd (omega arith)
 
-module _ {V : Type 0} (k : Kind V) (lawk : Lawful k) (p : Placed) (law : Lawful-placed p) (cu cf : ℕ) (cs : List (Call V)) (run : Run k p cu cf cs) where
-  abbrev w0 : Rack
-  w0 = new-rack k p cu cf
-
+module _ {V : Type 0} (k : Kind V) (lawk : Lawful k) (p : Placed) (law : Lawful-placed p) (cu cf : ℕ) (w0 : Rack) (cs : List (Call V)) (run : Run k p cu cf w0 cs) where
   abbrev h : List (Step V)
   h = history k p w0 cs
 
@@ -205,7 +202,7 @@ module _ {V : Type 0} (k : Kind V) (lawk : Lawful k) (p : Placed) (law : Lawful-
 
   known : (t : ℕ) → Known t
   unfolding model.world rack-after
-  known zero = record { linked = opened-linked k lawk p law cu cf; may = λ s b. absurd (omega arith); frames = λ s x bytes b a q. absurd (omega arith) }
+  known zero = record { linked = opened-linked k lawk p law cu cf w0 (run .new); may = λ s b. absurd (omega arith); frames = λ s x bytes b a q. absurd (omega arith) }
   known (suc t) = go (decLt t (length cs)) (known t)
     where
       go : Dec (t < length cs) → Known t → Known (suc t)
@@ -345,4 +342,4 @@ module _ {V : Type 0} (k : Kind V) (lawk : Lawful k) (p : Placed) (law : Lawful-
 
 -- every run keeps the promises
 pub every-run : {V : Type 0} (k : Kind V) → Lawful k → (p : Placed) → Lawful-placed p → Every-run-keeps-the-promises k p
-every-run k lawk p law cu cf hu hf cs run = promised k lawk p law (new-rack k p cu cf) cs (faithful k lawk p law cu cf cs run)
+every-run k lawk p law cu cf w cs run = promised k lawk p law w cs (faithful k lawk p law cu cf w cs run)

@@ -14,12 +14,11 @@ use mathlib.Core.Option.{Option as Maybe, none, some}
 use Prim.Native.Nat.{ℕ, zero, suc, _+_, _<_}
 use native.Mathlib.Omega.{arith}
 use native.Mathlib.Decide.{decLt}
-use lib.ListN.{length, take, drop, getD}
+use lib.ListN.{take, drop, getD}
 use Rattle.std.specs.declared.option.Option.{Option}
 use Rattle.std.specs.declared.result.Result.{Result}
 use Rattle.std.specs.declared.result.Result.the-variants.{Ok, Err}
 use Rattle.fields.specs.Bits.{num, bits}
-use Rattle.fields.proofs.BitLaws.{bits-num}
 use Rattle.values.specs.Kinds.{Kind, Lawful}
 use Rattle.values.specs.declared.fault.Fault.{Fault}
 use Rattle.frames.specs.Reading.{reply-read}
@@ -38,7 +37,6 @@ use Rattle.protocol.proofs.Model.{Config, Write, Ask, Waiting, Way, Event, wor
 use Rattle.protocol.proofs.ModelBasics.{set-cases}
 use Rattle.protocol.proofs.ModelOrder.{may-take}
 use Rattle.protocol.proofs.Views.{config, events, when-ok, wrote-view, asked-view, copy-view, update-view, applied-event, replied-event, reply-sent-view, reply-ask}
-use Rattle.protocol.proofs.Values.{same-value}
 use Rattle.protocol.proofs.Faithful.{Faithful}
 use Rattle.protocol.proofs.Accepted.{Labelled, write-label, took, reply-taken}
 use Rattle.protocol.proofs.Steps.{at-step, same-step, Shown, as-wrote, as-local, as-fetched, as-applied, as-asked, shown}

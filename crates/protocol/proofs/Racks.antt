@@ -1,10 +1,13 @@
 -- A rack and the model's world stay linked: at the opening, and from call to call.
 use mathlib.Core.Path.{_≡_, refl, sym, ap, ap₂, subst, _∙_}
-use mathlib.Core.List.{List}
-use Prim.Native.Nat.{ℕ, zero, suc, _+_, _*_, _<_}
+use mathlib.Core.Bool.{Bool, true, false, _&&_}
+use mathlib.Core.List.{List, []}
+use Prim.Native.Nat.{ℕ, _*_, _<_}
 use native.Mathlib.Decide.{decLt}
 use native.Mathlib.Omega.{arith}
+use lib.Dec.{eqb}
 use lib.ListN.{length, getD, set, replicate}
+use borrow.Author.Tests.{eqb-true}
 use Rattle.std.proofs.shelf.Lists.{length-set, length-replicate, getD-replicate}
 use Rattle.std.specs.declared.option.Option.the-variants.{Some, None}
 use Rattle.clocks.proofs.CountLaws.{zeros-at, within-from}
@@ -12,24 +15,25 @@ use Rattle.clocks.proofs.MatrixLaws.{zero-entry}
 use Rattle.fields.specs.Bits.{num}
 use Rattle.values.specs.Kinds.{Kind, Lawful}
 use Rattle.values.specs.declared.fault.Fault.{Fault}
+use Rattle.values.specs.declared.fault.Refusal.{Refusal}
+use Rattle.values.specs.declared.fault.Refusal.the-variants.{OutOfRange, OtherTables}
 use Rattle.std.specs.declared.result.Result.{Result}
 use Rattle.std.specs.declared.result.Result.the-variants.{Ok, Err}
-use Rattle.protocol.specs.States.{Placed, Lawful-placed, State}
+use Rattle.protocol.specs.States.{Placed, Lawful-placed, State, Session, Outcome, need}
 use Rattle.protocol.specs.Words.{no-copy}
-use Rattle.protocol.specs.Opening.{unwritten, opened}
-use Rattle.protocol.specs.Applying.{no-update, apply-rule}
-use Rattle.protocol.specs.Serving.{no-fetch}
+use Rattle.protocol.specs.Opening.{unwritten, opened, opening-range, opening-tables}
+use Rattle.protocol.specs.Applying.{apply-rule}
 use Rattle.protocol.specs.Reading.{read-rule}
 use Rattle.protocol.specs.Receiving.{receive-rule}
 use Rattle.protocol.specs.Replying.{take-rule, abandon-rule}
-use Rattle.protocol.specs.Runs.{Call, Answer, Rack, write, read, fetch, receive, apply, serve, take-reply, abandon, written, was-read, received, applied, replied, abandoned, told-so, fresh, open-from, new-rack, at, step, site-of, frame-of}
+use Rattle.protocol.specs.Runs.{Call, Answer, Rack, write, read, fetch, receive, apply, serve, take-reply, abandon, written, was-read, received, applied, replied, abandoned, told-so, no-site, Newly-opened, New-rack, at, step, site-of, frame-of}
 use Rattle.protocol.proofs.Model as model
 use Rattle.protocol.proofs.Views.{config, view, event-of, copy-view}
 use Rattle.protocol.proofs.ViewLaws.{view-in, view-row-out, view-column-out}
 use Rattle.protocol.proofs.Values.{plain-taken}
 use Rattle.protocol.proofs.Frames.{Carried}
 use Rattle.protocol.proofs.Agreement.{Clock, Good-copy, Sound, Agrees, Linked, agrees-same, untouched}
-use Rattle.protocol.proofs.Stepping.{Stepped, set-at}
+use Rattle.protocol.proofs.Stepping.{Stepped, set-at, and-true}
 use Rattle.protocol.proofs.StepWriting.{step-writing}
 use Rattle.protocol.proofs.StepReading.{step-reading, step-fetching, step-abandoning}
 use Rattle.protocol.proofs.StepApplying.{step-applying, step-serving}
@@ -38,18 +42,11 @@ use Rattle.protocol.proofs.StepFrames.{frames-writing, frames-fetching, frames
 
 -- the opening
 
-pub opened-length : {V : Type 0} (k : Kind V) (p : Placed) (cu cf i n : ℕ) → length (open-from k p cu cf i n) ≡ n
-unfolding open-from
-opened-length k p cu cf i zero = refl
-opened-length k p cu cf i (suc n) = ap suc (opened-length k p cu cf (suc i) n)
-
-opened-at : {V : Type 0} (k : Kind V) (p : Placed) (cu cf i n j : ℕ) (d : State) → j < n → getD (open-from k p cu cf i n) j d ≡ opened k p (i + j) cu cf (fresh cu cf)
-unfolding open-from
-opened-at k p cu cf i zero j d h = absurd (omega arith)
-opened-at k p cu cf i (suc n) zero d h = let z : i ≡ i + 0 = omega arith in ap (λ m. opened k p m cu cf (fresh cu cf)) z
-opened-at k p cu cf i (suc n) (suc j) d h =
-    let z : suc i + j ≡ i + suc j = omega arith in
-    opened-at k p cu cf (suc i) n j d (omega arith) ∙ ap (λ m. opened k p m cu cf (fresh cu cf)) z
+-- what an accepted opening has passed
+open-both : {A : Type 0} (a b : Bool) (x y : Refusal) (s : State) (o : Outcome A) (z : A) → need a x s [] (need b y s [] o) .answer ≡ Ok z → (a ≡ true) × (b ≡ true)
+open-both true true x y s o z h = (refl, refl)
+open-both true false x y s o z h = let n : _≡_ {A = ℕ} 0 1 = cc in absurd (omega arith)
+open-both false b x y s o z h = let n : _≡_ {A = ℕ} 0 1 = cc in absurd (omega arith)
 
 zero-view : (n a b : ℕ) → view n (replicate 64 0) a b ≡ 0
 zero-view n a b = go (decLt a n) (decLt b n)
@@ -72,16 +69,16 @@ module _ {V : Type 0} (k : Kind V) (lawk : Lawful k) (p : Placed) (law : Lawful-
   unwritten-at : (r : ℕ) → r < p .registers → getD (replicate (p .registers) (unwritten k)) r no-copy ≡ unwritten k
   unwritten-at r h = getD-replicate (p .registers) r (unwritten k) no-copy h
 
-  opened-sound : (i : ℕ) → i < p .sites → Sound k p cu cf (opened k p i cu cf (fresh cu cf))
-  opened-sound i h = record {
+  opened-sound : (i : ℕ) (s : State) → i < p .sites → opening-tables p cu cf s ≡ true → Sound k p cu cf (opened k p i cu cf s)
+  opened-sound i s h q = record {
     site = h;
     sites = refl;
     registers = refl;
     update-places = refl;
     fetch-places = refl;
     copies-long = length-replicate (p .registers) (unwritten k);
-    updates-long = length-replicate cu no-update;
-    fetches-long = length-replicate cf no-fetch;
+    updates-long = eqb-true (length (s .updates)) cu (and-true (eqb (length (s .updates)) cu) (eqb (length (s .fetches)) cf) rest .0);
+    fetches-long = eqb-true (length (s .fetches)) cf (and-true (eqb (length (s .updates)) cu) (eqb (length (s .fetches)) cf) rest .1);
     updates-fit = omega arith;
     fetches-fit = omega arith;
     sent = zero-clock (p .sites);
@@ -92,9 +89,12 @@ module _ {V : Type 0} (k : Kind V) (lawk : Lawful k) (p : Placed) (law : Lawful-
     updates = λ u z. absurd z;
     fetches = λ f z. absurd z;
   }
+    where
+      rest : (eqb (length (s .updates)) cu && eqb (length (s .fetches)) cf) ≡ true
+      rest = and-true (eqb (length (s .copies)) (p .registers)) (eqb (length (s .updates)) cu && eqb (length (s .fetches)) cf) q .1
 
-  opened-agrees : (i : ℕ) → Agrees k (model.opened (config k p law)) (opened k p i cu cf (fresh cu cf))
-  opened-agrees i = record {
+  opened-agrees : (i : ℕ) (s : State) → Agrees k (model.opened (config k p law)) (opened k p i cu cf s)
+  opened-agrees i s = record {
     sent = λ a b. sym (zero-view (p .sites) a b);
     applies = λ a. sym (zeros-at 8 a);
     copy = λ r h.
@@ -107,16 +107,25 @@ module _ {V : Type 0} (k : Kind V) (lawk : Lawful k) (p : Placed) (law : Lawful-
     asks = refl;
   }
 
-  pub opened-linked : Linked k p cu cf (model.opened (config k p law)) (new-rack k p cu cf)
-  opened-linked = record {
-    all = opened-length k p cu cf 0 (p .sites);
-    number = λ i h. ap (λ s. s .site) (here i h);
-    sound = λ i h. subst (Sound k p cu cf) (sym (here i h)) (opened-sound i h);
-    agrees = λ i h. subst (Agrees k (model.opened (config k p law))) (sym (here i h)) (opened-agrees i);
+  pub opened-linked : (w : Rack) → New-rack k p cu cf w → Linked k p cu cf (model.opened (config k p law)) w
+  opened-linked w new = record {
+    all = new .all;
+    number = λ i h. ap (λ s. s .site) (here i (new .opened i h));
+    sound = λ i h. subst (Sound k p cu cf) (sym (here i (new .opened i h))) (opened-sound i (new .opened i h .lent) h (passed i (new .opened i h) .1));
+    agrees = λ i h. subst (Agrees k (model.opened (config k p law))) (sym (here i (new .opened i h))) (opened-agrees i (new .opened i h .lent));
   }
     where
-      here : (i : ℕ) → i < p .sites → at (new-rack k p cu cf) i ≡ opened k p i cu cf (fresh cu cf)
-      here i h = let z : 0 + i ≡ i = omega arith in opened-at k p cu cf 0 (p .sites) i (fresh 0 0) h ∙ ap (λ m. opened k p m cu cf (fresh cu cf)) z
+      passed : (i : ℕ) (o : Newly-opened k p cu cf w i) → (opening-range p i cu cf ≡ true) × (opening-tables p cu cf (o .lent) ≡ true)
+      passed i o = open-both (opening-range p i cu cf) (opening-tables p cu cf (o .lent)) OutOfRange OtherTables (o .lent)
+          (record { answer = Ok (record { site = i; fetched = 0 }); after = opened k p i cu cf (o .lent); place = [] }) (o .session) (o .accepted)
+
+      here : (i : ℕ) (o : Newly-opened k p cu cf w i) → at w i ≡ opened k p i cu cf (o .lent)
+      here i o =
+          let done : Outcome Session = record { answer = Ok (record { site = i; fetched = 0 }); after = opened k p i cu cf (o .lent); place = [] } in
+          let q = passed i o in
+          o .after
+          ∙ ap (λ b. need b OutOfRange (o .lent) [] (need (opening-tables p cu cf (o .lent)) OtherTables (o .lent) [] done) .after) (q .0)
+          ∙ ap (λ b. need b OtherTables (o .lent) [] done .after) (q .1)
 
   -- one site moves, the others stay
   pub relinked : (e : ℕ → model.Event) (t : ℕ) (w : model.World) (rack : Rack) (i : ℕ) (s : State) (v : model.Event) → i < p .sites → Linked k p cu cf w rack → Stepped k p law cu cf e t w (at rack i) s v
@@ -126,10 +135,10 @@ module _ {V : Type 0} (k : Kind V) (lawk : Lawful k) (p : Placed) (law : Lawful-
       let me : s .site ≡ i = m .kept ∙ l .number i h in
       record {
         all = length-set rack i s ∙ l .all;
-        number = λ j q. set-at rack i s (fresh 0 0) j long (λ x. x .site ≡ j) (λ z. me ∙ sym z) (λ _. l .number j q);
-        sound = λ j q. set-at rack i s (fresh 0 0) j long (Sound k p cu cf) (λ _. m .sound) (λ _. l .sound j q);
+        number = λ j q. set-at rack i s no-site j long (λ x. x .site ≡ j) (λ z. me ∙ sym z) (λ _. l .number j q);
+        sound = λ j q. set-at rack i s no-site j long (Sound k p cu cf) (λ _. m .sound) (λ _. l .sound j q);
         agrees = λ j q.
-            set-at rack i s (fresh 0 0) j long (Agrees k (model.after (config k p law) v w)) (λ _. m .agrees)
+            set-at rack i s no-site j long (Agrees k (model.after (config k p law) v w)) (λ _. m .agrees)
             (λ z. agrees-same k (model.after (config k p law) v w) w (at rack j)
             (untouched (config k p law) w v (at rack i .site) (at rack j .site) (m .changes) (λ y. z (sym (l .number j q) ∙ y ∙ l .number i h))) (l .agrees j q));
       }

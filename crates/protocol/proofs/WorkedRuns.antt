@@ -20,8 +20,8 @@ use Rattle.values.specs.Kinds.{plain, taken}
 use Rattle.values.specs.declared.coefficient.Coefficient.{Coefficient}
 use Rattle.values.proofs.CoefficientLaws.{coefficient-lawful}
 use Rattle.protocol.specs.States.{Placed, Lawful-placed}
-use Rattle.protocol.specs.Runs.{Call, Answer, Step, Step-at, first, later, Sent-before, Given-frame, site-of, frame-of, Run, new-rack, open-from, history}
-use Rattle.protocol.specs.Worked.{asks-one, pair-held, apart-held, pair, apart, Goes, every-call, every-answer, unread, unread-answers, too-early, too-early-answers, own-write, own-write-answers, Premises-met, Merges-on-read-alone, Waits-for-its-past, Serves-what-the-reader-knows}
+use Rattle.protocol.specs.Runs.{Call, Answer, Step, Step-at, first, later, Sent-before, Given-frame, site-of, frame-of, New-rack, Newly-opened, history}
+use Rattle.protocol.specs.Worked.{lent, at-site, rack, asks-one, pair-held, apart-held, pair, apart, Goes, every-call, every-answer, unread, unread-answers, too-early, too-early-answers, own-write, own-write-answers, Premises-met, Merges-on-read-alone, Waits-for-its-past, Serves-what-the-reader-knows}
 
 -- calls with their answers, one for one
 abbrev answered : List (Call Coefficient) → List (Answer Coefficient) → List (Step Coefficient)
@@ -30,7 +30,7 @@ answered (c ∷ cs) [] = []
 answered (c ∷ cs) (y ∷ ys) = record { call = c; answer = y } ∷ answered cs ys
 
 abbrev Comes-to : Placed → List (Call Coefficient) → List (Answer Coefficient) → Type 0
-Comes-to p cs ys = history coefficient-kind p (new-rack coefficient-kind p 8 4) cs ≡ answered cs ys
+Comes-to p cs ys = history coefficient-kind p (rack p) cs ≡ answered cs ys
 
 -- what a run asks of each step of a list, one after the other
 
@@ -55,14 +55,15 @@ handed-at h s (y ∷ ys) a (suc t) x (later at) =
     let q : suc s + t ≡ s + suc t = omega arith in
     subst P q (handed-at h (suc s) ys (a .1) t x at)
 
-goes : (p : Placed) (cs : List (Call Coefficient)) (ys : List (Answer Coefficient)) → Comes-to p cs ys → map (λ x. x .answer) (answered cs ys) ≡ ys
+goes : (p : Placed) (cs : List (Call Coefficient)) (ys : List (Answer Coefficient)) → New-rack coefficient-kind p 8 4 (rack p) → Comes-to p cs ys → map (λ x. x .answer) (answered cs ys) ≡ ys
     → Sited (p .sites) (answered cs ys) → Handed (answered cs ys) 0 (answered cs ys) → Goes p cs ys
-goes p cs ys q same a b =
+goes p cs ys new q same a b =
     let h : List (Step Coefficient) = answered cs ys in
     let P : List (Step Coefficient) → Type 0 = λ l. (t : ℕ) (x : Step Coefficient) → Step-at l t x → site-of (x .call) < p .sites in
     let Q : List (Step Coefficient) → Type 0 = λ l. (t : ℕ) (x : Step Coefficient) → Step-at l t x → Given-frame l t (x .call) in
     let R : List (Step Coefficient) → Type 0 = λ l. map (λ x. x .answer) l ≡ ys in (
       record {
+        new = new;
         sited = subst P (sym q) (sited-at (p .sites) h a);
         handed = subst Q (sym q) (λ t x at. let G : ℕ → Type 0 = λ u. Given-frame h u (x .call) in subst G (zero-add t) (handed-at h 0 h b t x at));
       },
@@ -142,22 +143,31 @@ apart-one (suc (suc r)) h = absurd (omega arith)
 lawful-apart : Lawful-placed apart
 lawful-apart = lawful-asking apart-held apart-outside apart-none apart-one
 
+new-at : (held : ℕ → ℕ → Bool) (i : ℕ) → i < 3 → Newly-opened coefficient-kind (asks-one held) 8 4 (rack (asks-one held)) i
+new-at held zero h = record { lent = lent; session = at-site 0 0; accepted = refl; after = refl }
+new-at held (suc zero) h = record { lent = lent; session = at-site 1 0; accepted = refl; after = refl }
+new-at held (suc (suc zero)) h = record { lent = lent; session = at-site 2 0; accepted = refl; after = refl }
+new-at held (suc (suc (suc i))) h = absurd (omega arith)
+
+new-asking : (held : ℕ → ℕ → Bool) → New-rack coefficient-kind (asks-one held) 8 4 (rack (asks-one held))
+new-asking held = record { all = refl; opened = new-at held }
+
 -- the histories
 
 every-history : Comes-to pair every-call every-answer
-unfolding history open-from update-frame fetch-frame reply-frame framed body laid filling row numbers told every plain taken bits odd num bit bytes-by bits-of
+unfolding history update-frame fetch-frame reply-frame framed body laid filling row numbers told every plain taken bits odd num bit bytes-by bits-of
 every-history = refl
 
 unread-history : Comes-to pair unread unread-answers
-unfolding history open-from update-frame fetch-frame reply-frame framed body laid filling row numbers told every plain taken bits odd num bit bytes-by bits-of
+unfolding history update-frame fetch-frame reply-frame framed body laid filling row numbers told every plain taken bits odd num bit bytes-by bits-of
 unread-history = refl
 
 too-early-history : Comes-to apart too-early too-early-answers
-unfolding history open-from update-frame fetch-frame reply-frame framed body laid filling row numbers told every plain taken bits odd num bit bytes-by bits-of
+unfolding history update-frame fetch-frame reply-frame framed body laid filling row numbers told every plain taken bits odd num bit bytes-by bits-of
 too-early-history = refl
 
 own-write-history : Comes-to pair own-write own-write-answers
-unfolding history open-from update-frame fetch-frame reply-frame framed body laid filling row numbers told every plain taken bits odd num bit bytes-by bits-of
+unfolding history update-frame fetch-frame reply-frame framed body laid filling row numbers told every plain taken bits odd num bit bytes-by bits-of
 own-write-history = refl
 
 -- the runs
@@ -165,24 +175,24 @@ own-write-history = refl
 every-goes : Goes pair every-call every-answer
 unfolding update-frame fetch-frame reply-frame framed body laid filling row bits odd num bit bytes-by
 every-goes =
-    goes pair every-call every-answer every-history refl
+    goes pair every-call every-answer (new-asking pair-held) every-history refl
     (tt, (tt, (tt, (tt, (tt, (tt, (tt, (tt, (tt, (tt, (tt, (tt, (tt, tt)))))))))))))
     (tt, (from 0 tt refl, (tt, (tt, (tt, (from 4 tt refl, (tt, (tt, (from 7 tt refl, (tt, (from 9 tt refl, (tt, (tt, tt)))))))))))))
 
 pub premises-met : Premises-met
-premises-met = record { kind = coefficient-lawful; placed = lawful-pair; updates = (lit≤ tt, lit≤ tt); fetches = (lit≤ tt, lit≤ tt); run = every-goes }
+premises-met = record { kind = coefficient-lawful; placed = lawful-pair; run = every-goes }
 
 pub merges-on-read-alone : Merges-on-read-alone
 unfolding update-frame fetch-frame reply-frame framed body laid filling row bits odd num bit bytes-by
 merges-on-read-alone =
-    goes pair unread unread-answers unread-history refl
+    goes pair unread unread-answers (new-asking pair-held) unread-history refl
     (tt, (tt, (tt, (tt, (tt, tt)))))
     (tt, (from 0 tt refl, (tt, (from 2 tt refl, (tt, tt)))))
 
 too-early-goes : Goes apart too-early too-early-answers
 unfolding update-frame fetch-frame reply-frame framed body laid filling row bits odd num bit bytes-by
 too-early-goes =
-    goes apart too-early too-early-answers too-early-history refl
+    goes apart too-early too-early-answers (new-asking apart-held) too-early-history refl
     (tt, (tt, (tt, (tt, (tt, (tt, (tt, (tt, (tt, (tt, (tt, (tt, tt))))))))))))
     (tt, (from 0 tt refl, (tt, (tt, (tt, (tt, (from 5 tt refl, (tt, (from 7 tt refl, (from 0 tt refl, (tt, (from 7 tt refl, tt))))))))))))
 
@@ -192,6 +202,6 @@ waits-for-its-past = (lawful-apart, too-early-goes)
 pub serves-what-the-reader-knows : Serves-what-the-reader-knows
 unfolding update-frame fetch-frame reply-frame framed body laid filling row bits odd num bit bytes-by
 serves-what-the-reader-knows =
-    goes pair own-write own-write-answers own-write-history refl
+    goes pair own-write own-write-answers (new-asking pair-held) own-write-history refl
     (tt, (tt, (tt, (tt, (tt, (tt, (tt, (tt, tt))))))))
     (tt, (tt, (from 1 tt refl, (tt, (from 0 tt refl, (tt, (tt, (from 6 tt refl, tt))))))))

@@ -28,7 +28,7 @@ use Rattle.protocol.specs.Words.{bound-for, waiting-updates}
 use Rattle.protocol.specs.Writing.{Written}
 use Rattle.protocol.specs.Reading.{Read}
 use Rattle.protocol.specs.Applying.{Applied, ready-update}
-use Rattle.protocol.specs.Runs.{Call, Step, Step-at, Rack, Run, write, read, apply, take-reply, no, written, applied, was-read, replied, at, new-rack, rack-after, history}
+use Rattle.protocol.specs.Runs.{Call, Step, Step-at, Rack, Run, write, read, apply, take-reply, no, written, applied, was-read, replied, at, rack-after, history}
 use Rattle.protocol.specs.Causality.{Writes, Reads, Fetching, Before, Applies, Waits, Past-applied}
 
 module _ {V : Type 0} (k : Kind V) (p : Placed) (h : List (Step V)) where
@@ -149,7 +149,6 @@ pub record Promised {V : Type 0} (k : Kind V) (p : Placed) (w : Rack) (cs : List
   pub fresh : No-stale-reads k p (history k p w cs)
   pub ready : Ready-when-due k p w cs
 
--- every run keeps them: for every lawful kind and placement with homes, capacities of 1 to 64 updates and 1 to 16 fetches, and every list of calls
+-- every run keeps them: for every lawful kind and placement with homes, all capacities and tables that opening accepts, and every list of calls
 abbrev pub Every-run-keeps-the-promises : {V : Type 0} → Kind V → Placed → Type 0
-Every-run-keeps-the-promises {V} k p =
-    (cu cf : ℕ) → (1 ≤ cu) × (cu ≤ 64) → (1 ≤ cf) × (cf ≤ 16) → (cs : List (Call V)) → Run k p cu cf cs → Promised k p (new-rack k p cu cf) cs
+Every-run-keeps-the-promises {V} k p = (cu cf : ℕ) (w : Rack) (cs : List (Call V)) → Run k p cu cf w cs → Promised k p w cs

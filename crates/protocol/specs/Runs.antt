@@ -3,20 +3,20 @@
 --   Call V          a call at some site, with whatever numbers, session, bytes and place its caller hands over
 --   Answer V        what it answers, with the caller's place after it where it wrote into one
 --   Rack            the states of the sites, site 0 first
---   new-rack        every site opened, with the same capacities
+--   New-rack        every site was opened, with the same capacities
 --   step            one call on a rack: the answer, and the rack after it. Each case is the rule of that call.
 --   rack-after      the rack after some calls
 --   history         the calls with their answers
 --   frame-of        the frame that an accepted call has written, if any
---   Handed-over     every frame that a call is handed was written by an earlier accepted call of the run
+--   Run             calls at sites of a new rack; every frame that a call is handed was written by an earlier accepted call of the run
 --
 -- Assumes nothing.
 use mathlib.Core.Path.{_≡_}
 use mathlib.Core.Bool.{cond}
 use mathlib.Core.List.{List, [], _∷_}
-use Prim.Native.Nat.{ℕ, zero, suc, _<_}
+use Prim.Native.Nat.{ℕ, suc, _<_}
 use lib.Dec.{eqb}
-use lib.ListN.{length, take, getD, set, replicate}
+use lib.ListN.{length, take, getD, set}
 use Rattle.std.specs.declared.option.Option.{Option}
 use Rattle.std.specs.declared.option.Option.the-variants.{Some, None}
 use Rattle.std.specs.declared.result.Result.{Result}
@@ -24,13 +24,13 @@ use Rattle.std.specs.declared.result.Result.the-variants.{Ok, Err}
 use Rattle.values.specs.Kinds.{Kind}
 use Rattle.values.specs.declared.fault.Fault.{Fault}
 use Rattle.protocol.specs.States.{Placed, State, Session, Outcome}
-use Rattle.protocol.specs.Opening.{opened}
+use Rattle.protocol.specs.Opening.{open-rule}
 use Rattle.protocol.specs.Writing.{Written, write-rule}
 use Rattle.protocol.specs.Reading.{Read, read-rule}
 use Rattle.protocol.specs.Fetching.{Begun, fetch-rule}
 use Rattle.protocol.specs.Receiving.{receive-rule}
-use Rattle.protocol.specs.Applying.{Applied, apply-rule, no-update}
-use Rattle.protocol.specs.Serving.{Served, serve-rule, no-fetch}
+use Rattle.protocol.specs.Applying.{Applied, apply-rule}
+use Rattle.protocol.specs.Serving.{Served, serve-rule}
 use Rattle.protocol.specs.Replying.{take-rule, abandon-rule}
 
 pub data Call (V : Type 0) : Type 0 where
@@ -62,9 +62,9 @@ pub record Step (V : Type 0) : Type 0 where
 abbrev pub Rack : Type 0
 Rack = List State
 
--- tables that nobody has used yet: what lies in them belongs to nobody
-abbrev pub fresh : ℕ → ℕ → State
-fresh cu cf = record {
+-- where a rack has no site: its numbers are 0
+abbrev pub no-site : State
+no-site = record {
   site = 0;
   sites = 0;
   registers = 0;
@@ -78,21 +78,24 @@ fresh cu cf = record {
   updates-waiting = 0;
   fetches-waiting = 0;
   copies = [];
-  updates = replicate cu no-update;
-  fetches = replicate cf no-fetch;
+  updates = [];
+  fetches = [];
 }
-
--- the sites from number i on, n of them
-unfoldable pub open-from : {V : Type 0} → Kind V → Placed → ℕ → ℕ → ℕ → ℕ → Rack
-open-from k p cu cf i zero = []
-open-from k p cu cf i (suc n) = opened k p i cu cf (fresh cu cf) ∷ open-from k p cu cf (suc i) n
-
-abbrev pub new-rack : {V : Type 0} → Kind V → Placed → ℕ → ℕ → Rack
-new-rack k p cu cf = open-from k p cu cf 0 (p .sites)
 
 -- site i of a rack
 abbrev pub at : Rack → ℕ → State
-at w i = getD w i (fresh 0 0)
+at w i = getD w i no-site
+
+-- site i was opened, over whatever its caller's tables held
+pub record Newly-opened {V : Type 0} (k : Kind V) (p : Placed) (cu cf : ℕ) (w : Rack) (i : ℕ) : Type 0 where
+  pub lent : State
+  pub session : Session
+  pub accepted : open-rule k p i cu cf lent .answer ≡ Ok session
+  pub after : at w i ≡ open-rule k p i cu cf lent .after
+
+pub record New-rack {V : Type 0} (k : Kind V) (p : Placed) (cu cf : ℕ) (w : Rack) : Type 0 where
+  pub all : length w ≡ p .sites
+  pub opened : (i : ℕ) → i < p .sites → Newly-opened k p cu cf w i
 
 -- what a rule's outcome is on the rack: the site is left as the rule says, the others as they were
 pub record Moved (V : Type 0) : Type 0 where
@@ -166,8 +169,9 @@ Given-frame h t (serve i place) = Unit {0}
 Given-frame h t (take-reply i z bytes) = Sent-before h t bytes
 Given-frame h t (abandon i z) = Unit {0}
 
-pub record Run {V : Type 0} (k : Kind V) (p : Placed) (cu cf : ℕ) (cs : List (Call V)) : Type 0 where
+pub record Run {V : Type 0} (k : Kind V) (p : Placed) (cu cf : ℕ) (w : Rack) (cs : List (Call V)) : Type 0 where
+  pub new : New-rack k p cu cf w
   -- each call is at a site of the rack
-  pub sited : (t : ℕ) (x : Step V) → Step-at (history k p (new-rack k p cu cf) cs) t x → site-of (x .call) < p .sites
+  pub sited : (t : ℕ) (x : Step V) → Step-at (history k p w cs) t x → site-of (x .call) < p .sites
   -- each frame handed over was written before
-  pub handed : (t : ℕ) (x : Step V) → Step-at (history k p (new-rack k p cu cf) cs) t x → Given-frame (history k p (new-rack k p cu cf) cs) t (x .call)
+  pub handed : (t : ℕ) (x : Step V) → Step-at (history k p w cs) t x → Given-frame (history k p w cs) t (x .call)

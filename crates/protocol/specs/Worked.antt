@@ -17,10 +17,10 @@
 use mathlib.Core.Path.{_≡_}
 use mathlib.Core.Bool.{Bool, true, false, cond}
 use mathlib.Core.List.{List, [], _∷_, _++_, map}
-use Prim.Native.Nat.{ℕ, zero, suc, _≤_}
+use Prim.Native.Nat.{ℕ, zero, suc}
 use lib.ListN.{replicate}
 use Rattle.std.specs.declared.option.Option.{Option}
-use Rattle.std.specs.declared.option.Option.the-variants.{Some}
+use Rattle.std.specs.declared.option.Option.the-variants.{Some, None}
 use Rattle.frames.specs.Messages.{update-frame, fetch-frame, reply-frame}
 use Rattle.frames.specs.declared.message.Fetch.{Fetch}
 use Rattle.frames.specs.declared.message.Reply.{Reply}
@@ -30,8 +30,9 @@ use Rattle.values.specs.Kinds.{Lawful}
 use Rattle.values.specs.Refusals.{of-site}
 use Rattle.values.specs.declared.coefficient.Coefficient.{Coefficient}
 use Rattle.values.specs.declared.fault.Refusal.the-variants.{NoneReady, NotCaughtUp}
-use Rattle.protocol.specs.States.{Placed, Lawful-placed, Session}
-use Rattle.protocol.specs.Runs.{Call, write, read, fetch, receive, apply, serve, take-reply, abandon, Answer, no, written, was-read, begun, received, applied, served, replied, abandoned, Run, new-rack, history}
+use Rattle.protocol.specs.States.{Placed, Lawful-placed, State, Session}
+use Rattle.protocol.specs.Opening.{open-rule}
+use Rattle.protocol.specs.Runs.{Call, write, read, fetch, receive, apply, serve, take-reply, abandon, Answer, no, written, was-read, begun, received, applied, served, replied, abandoned, Rack, Run, history}
 
 -- Placements.
 
@@ -67,18 +68,45 @@ apart = asks-one apart-held
 
 -- Runs of coefficients, with room for 8 updates and 4 fetches at each site.
 
+-- a caller's place, and what is left of it behind a frame
+abbrev pub blank : ℕ → List ℕ
+blank n = replicate n 0
+
+-- the tables that a caller lends, all zero
+abbrev pub lent : State
+lent = record {
+  site = 0;
+  sites = 0;
+  registers = 0;
+  update-places = 0;
+  fetch-places = 0;
+  sent = blank 64;
+  applied = blank 8;
+  written = 0;
+  fetched = 0;
+  out = None;
+  updates-waiting = 0;
+  fetches-waiting = 0;
+  copies = replicate 2 (record { bits = record { bytes = blank 32 }; matrix = record { counts = blank 64 }; label = None });
+  updates = replicate 8 (record { sender = 0; register = 0; number = 0; matrix = record { counts = blank 64 }; bits = record { bytes = blank 32 } });
+  fetches = replicate 4 (record { reader = 0; register = 0; number = 0; column = record { counts = blank 8 } });
+}
+
+-- site i, opened
+abbrev pub open-site : Placed → ℕ → State
+open-site p i = open-rule coefficient-kind p i 8 4 lent .after
+
+abbrev pub rack : Placed → Rack
+rack p = open-site p 0 ∷ open-site p 1 ∷ open-site p 2 ∷ []
+
 abbrev pub Goes : Placed → List (Call Coefficient) → List (Answer Coefficient) → Type 0
 Goes p cs ys =
-    Run coefficient-kind p 8 4 cs
-    × (map (λ x. x .answer) (history coefficient-kind p (new-rack coefficient-kind p 8 4) cs) ≡ ys)
+    Run coefficient-kind p 8 4 (rack p) cs
+    × (map (λ x. x .answer) (history coefficient-kind p (rack p) cs) ≡ ys)
 
 -- site i, which has begun so many fetches
 abbrev pub at-site : ℕ → ℕ → Session
 at-site i fetched = record { site = i; fetched = fetched }
-
--- a caller's place, and what is left of it behind a frame
-abbrev pub blank : ℕ → List ℕ
-blank n = replicate n 0
 
 abbrev pub seven : Coefficient
 seven = coefficient-of 7
@@ -163,8 +191,6 @@ every-answer =
 pub record Premises-met : Type 0 where
   pub kind : Lawful coefficient-kind
   pub placed : Lawful-placed pair
-  pub updates : (1 ≤ 8) × (8 ≤ 64)
-  pub fetches : (1 ≤ 4) × (4 ≤ 16)
   pub run : Goes pair every-call every-answer
 
 -- Merging on receipt.

@@ -7,8 +7,8 @@ use Rattle.clocks.proofs.SiteLaws.{with_site_lt}
 use Rattle.clocks.proofs.set.with.Goals as goal
 
 -- the set with site l is again one of sites below 8
-pub overflow-add-result : goal.overflow-add-result
-overflow-add-result c =
+pub overflow_add-result : goal.overflow_add-result
+overflow_add-result c =
     let m = c.args.set in
     let l = c.args.l in
     let s = one_shl l 8 c.requires in

@@ -22,7 +22,7 @@ loop-left-preserved c =
     let x = c.part-x.result in
     let bs = c.args.bytes.now in
     let kl : c.if-left-room.k ≤ c.loop-left.left = elim c.if-left-room.branch [ then-left-room w ↦ omega (arith, w.k-is) | else-left-room w ↦ omega (arith, w.k-is) ] in
-    let kr : c.if-left-room.k ≤ 8 - c.offset-of-room.result = elim c.if-left-room.branch [ then-left-room w ↦ omega (arith, w.k-is) | else-left-room w ↦ omega (arith, w.k-is) ] in
+    let kr : c.if-left-room.k ≤ 8 - c.offset_of-room.result = elim c.if-left-room.branch [ then-left-room w ↦ omega (arith, w.k-is) | else-left-room w ↦ omega (arith, w.k-is) ] in
     let x< : c.part-x.result < 2 ^ c.if-left-room.k = rw c.part-x.ensures (mod_below _ (2 ^ c.if-left-room.k) (pow_pos c.if-left-room.k)) in
     let rest = num (take (left - k) (drop (pos + k) (bits_of bs))) in (
       omega arith,
@@ -30,7 +30,7 @@ loop-left-preserved c =
       rw c.joined-value.ensures (get_room v x left k kl (omega arith) c.loop-left.invariant.2 x<),
       rw c.joined-value.ensures
           (get_turn v x left k rest kl ∙ ap (λ z. v * 2 ^ left + (z * 2 ^ (left - k) + rest)) c.part-x.ensures
-          ∙ ap (λ z. v * 2 ^ left + z) (sym (get_step bs pos left k c.byte-of.result c.offset-of-room.result c.byte-of.ensures c.offset-of-room.ensures (omega arith) kl kr (omega arith))) ∙ c.loop-left.invariant.3),
+          ∙ ap (λ z. v * 2 ^ left + z) (sym (get_step bs pos left k c.byte_of.result c.offset_of-room.result c.byte_of.ensures c.offset_of-room.ensures (omega arith) kl kr (omega arith))) ∙ c.loop-left.invariant.3),
     )
 
 pub returns : goal.returns

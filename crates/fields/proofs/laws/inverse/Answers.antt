@@ -4,8 +4,8 @@ use Rattle.fields.proofs.laws.inverse.Goals as goal
 pub returns : goal.returns
 returns c =
     record {
-      read-put = reads_what_was_put;
-      put-read = puts_what_was_read;
+      read_put = reads_what_was_put;
+      put_read = puts_what_was_read;
       others = keeps_others;
       row_put = reads_the_row_put;
       row_read = puts_the_row_read;

@@ -7,8 +7,8 @@ use Rattle.frames.specs.Reading.{from}
 use Rattle.frames.proofs.PartLaws.{copied}
 use Rattle.frames.proofs.parts.value.Goals as goal
 
-pub overflow-add-result : goal.overflow-add-result
-overflow-add-result g c =
+pub overflow_add-result : goal.overflow_add-result
+overflow_add-result g c =
     let small = (g.met.V.ValueKind.lawful.refused (taken g.V.ValueKind.kind c.copy.new.place) c.in-Err.fault (sym c.in-Err.ensures)).1 in
     record { fits = omega (arith, small, c.width.ensures.exact, c.width.ensures.range) }
 

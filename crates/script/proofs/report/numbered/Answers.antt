@@ -22,8 +22,8 @@ loop-rest-preserved c =
     let n = c.loop-rest.number in
     let rest = c.cut.result.1.now in
     let k : 0 < length c.loop-rest.rest.now = omega arith in (
-      ap (λ t. t ++ numbered (n + 1) (lines rest)) c.in-ok-push-str.ensures.bytes
-          ∙ ap (λ t. (o ++ t) ++ numbered (n + 1) (lines rest)) (c.as-str.ensures.value ∙ c.in-ok-said.ensures)
+      ap (λ t. t ++ numbered (n + 1) (lines rest)) c.in_ok-push-str.ensures.bytes
+          ∙ ap (λ t. (o ++ t) ++ numbered (n + 1) (lines rest)) (c.as-str.ensures.value ∙ c.in_ok-said.ensures)
           ∙ turn o (numbered 1 (lines c.args.text.now)) c.cut.result.0.now c.loop-rest.rest.now rest n k c.cut.ensures.rest h.0,
       omega arith,
     )

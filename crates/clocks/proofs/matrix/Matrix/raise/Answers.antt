@@ -8,8 +8,8 @@ use Rattle.clocks.proofs.matrix.Matrix.raise.Goals.{then-has, else-has}
 pub loop-l-init : goal.loop-l-init
 loop-l-init c = sym (rewritten_none _ _ _)
 
-pub overflow-add-self : goal.overflow-add-self
-overflow-add-self c =
+pub overflow_add-self : goal.overflow_add-self
+overflow_add-self c =
     let m = c.args.self.now.counts in
     let n = c.args.n in
     let i = c.args.i in

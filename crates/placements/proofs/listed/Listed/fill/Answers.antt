@@ -3,8 +3,8 @@ use Rattle.std.proofs.Common.{ℕ, ◌^◌, ◌<◌, ◌≤◌, List, length, ge
 use Rattle.placements.specs.ListedLaws.{padded_at}
 use Rattle.placements.proofs.listed.Listed.fill.Goals as goal
 
-pub invariant-of-self : goal.invariant-of-self
-invariant-of-self c = (
+pub invariant_of-self : goal.invariant_of-self
+invariant_of-self c = (
   (omega arith, omega arith),
   (
     (omega arith, omega arith),

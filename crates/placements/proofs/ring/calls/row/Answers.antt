@@ -9,8 +9,8 @@ use Rattle.placements.proofs.ring.calls.row.Goals as goal
 pub loop-l-init : goal.loop-l-init
 loop-l-init c = sym (told_none _)
 
-pub overflow-add-m : goal.overflow-add-m
-overflow-add-m c =
+pub overflow_add-m : goal.overflow_add-m
+overflow_add-m c =
     let b = told_lt c.loop-l.l (in_row c.args.n c.args.p c.args.first) in
     let s = one_shl c.loop-l.l 8 (omega arith) in
     let e : 2 ^ c.loop-l.l ≤ 2 ^ 7 = pow_mono {i = c.loop-l.l} {j = 7} (omega arith) in

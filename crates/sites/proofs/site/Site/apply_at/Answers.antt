@@ -6,8 +6,8 @@ use Rattle.clocks.proofs.RowLaws.{raised_at_within}
 use Rattle.protocol.specs.Applying.{no_update}
 use Rattle.sites.proofs.site.Site.apply_at.Goals as goal
 
-pub invariant-of-self : goal.invariant-of-self
-invariant-of-self c =
+pub invariant_of-self : goal.invariant_of-self
+invariant_of-self c =
     let o = c.args.self.now in
     let k = (get_or c.args.updates.now c.args.index no_update).sender in
     let l : c.count.result < limit = ltb-true _ _ (sym c.can-rise.ensures ∙ c.if-not-can-rise.false) in

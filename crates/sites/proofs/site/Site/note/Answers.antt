@@ -3,8 +3,8 @@ use Rattle.std.proofs.Common.{◌≡◌, arith}
 use Rattle.clocks.proofs.RowLaws.{raised_at_within}
 use Rattle.sites.proofs.site.Site.note.Goals as goal
 
-pub invariant-of-self : goal.invariant-of-self
-invariant-of-self c =
+pub invariant_of-self : goal.invariant_of-self
+invariant_of-self c =
     let o = c.args.self.now in
     let w = raised_at_within o.sites o.applied.counts o.site (c.requires.2 c.if-held.true) o.applied_within in
     (o.inside, (o.updates_fit, (o.fetches_fit, ((omega arith, o.numbers_within.1), (c.requires.3, (rw c.raise.ensures w, tt))))))

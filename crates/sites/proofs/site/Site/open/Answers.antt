@@ -2,8 +2,8 @@ use Rattle.std.proofs.Common.{◌*◌, arith, rules}
 use Rattle.sites.proofs.Limits.{zeros_within}
 use Rattle.sites.proofs.site.Site.open.Goals as goal
 
-pub invariant-of-opened : goal.invariant-of-opened
-invariant-of-opened g c =
+pub invariant_of-opened : goal.invariant_of-opened
+invariant_of-opened g c =
     let n = c.sites-sites.result in
     let few = g.met.P.Placement.few c.args.placement.now in
     let sized = g.met.P.Placement.sized c.args.placement.now in

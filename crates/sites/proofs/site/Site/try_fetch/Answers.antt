@@ -20,7 +20,7 @@ returns-then-holds g c =
     let s = state_of c.args.self.now c.args.copies.now c.args.updates.now c.args.fetches.now in
     let z = idle c.args.session.now in
     let f : fits p s ≡ true = sym c.fits.ensures ∙ c.if-not-fits.false in
-    let i : idle_here s z c.args.r ≡ Ok tt = sym c.idle_here.ensures ∙ c.in-ok-idle-here.was in
+    let i : idle_here s z c.args.r ≡ Ok tt = sym c.idle_here.ensures ∙ c.in_ok-idle-here.was in
     let b : bound_for p c.args.r s.site ≡ true = sym c.holds.ensures ∙ c.if-holds.true in
     let e = fetch_held p s z c.args.r c.args.place.now f i b in
     record { answer = ap Err c.of-site-then-holds.ensures ∙ says e; after = leaves e; place = fills e; below = tt }
@@ -32,22 +32,22 @@ returns-then-not-can-rise g c =
     let s = state_of c.args.self.now c.args.copies.now c.args.updates.now c.args.fetches.now in
     let z = idle c.args.session.now in
     let f : fits p s ≡ true = sym c.fits.ensures ∙ c.if-not-fits.false in
-    let i : idle_here s z c.args.r ≡ Ok tt = sym c.idle_here.ensures ∙ c.in-ok-idle-here.was in
+    let i : idle_here s z c.args.r ≡ Ok tt = sym c.idle_here.ensures ∙ c.in_ok-idle-here.was in
     let b : bound_for p c.args.r s.site ≡ false = sym c.holds.ensures ∙ c.if-holds.false in
     let e = fetch_full p s z c.args.r c.args.place.now f i b (sym c.can-rise.ensures ∙ c.if-not-can-rise.true) in
     record { answer = ap Err c.of-site-then-not-can-rise.ensures ∙ says e; after = leaves e; place = fills e; below = tt }
 
-pub returns-in-err-length : goal.returns-in-err-length
-returns-in-err-length g c =
+pub returns-in_err-length : goal.returns-in_err-length
+returns-in_err-length g c =
     let m = c.args.placement.now in
     let p = placed (g.P.Placement.count m) (g.P.Placement.size m) (g.P.Placement.held m) (g.P.Homes.asked m) in
     let s = state_of c.args.self.now c.args.copies.now c.args.updates.now c.args.fetches.now in
     let z = idle c.args.session.now in
     let f : fits p s ≡ true = sym c.fits.ensures ∙ c.if-not-fits.false in
-    let i : idle_here s z c.args.r ≡ Ok tt = sym c.idle_here.ensures ∙ c.in-ok-idle-here.was in
+    let i : idle_here s z c.args.r ≡ Ok tt = sym c.idle_here.ensures ∙ c.in_ok-idle-here.was in
     let b : bound_for p c.args.r s.site ≡ false = sym c.holds.ensures ∙ c.if-holds.false in
-    let y = err_from_is_err_and c.from-residual-in-err-length.result c.from-residual-in-err-length.ensures.1 in
-    let w = cramped (fetch_size s) (length c.args.place.now) c.in-err-length.field-0.0 (sym c.write-fetch.ensures.answer ∙ c.in-err-length.was) in
+    let y = err_from_is_err_and c.from-residual-in_err-length.result c.from-residual-in_err-length.ensures.1 in
+    let w = cramped (fetch_size s) (length c.args.place.now) c.in_err-length.field-0.0 (sym c.write-fetch.ensures.answer ∙ c.in_err-length.was) in
     let e = fetch_cramped p s z c.args.r c.args.place.now f i b (sym c.can-rise.ensures ∙ c.if-not-can-rise.false) w.0 in
     record {
       answer = y.1 ∙ ap Err (y.2 ∙ w.1) ∙ says e;
@@ -63,9 +63,9 @@ returns g c =
     let s = state_of c.args.self.now c.args.copies.now c.args.updates.now c.args.fetches.now in
     let z = idle c.args.session.now in
     let f : fits p s ≡ true = sym c.fits.ensures ∙ c.if-not-fits.false in
-    let i : idle_here s z c.args.r ≡ Ok tt = sym c.idle_here.ensures ∙ c.in-ok-idle-here.was in
+    let i : idle_here s z c.args.r ≡ Ok tt = sym c.idle_here.ensures ∙ c.in_ok-idle-here.was in
     let b : bound_for p c.args.r s.site ≡ false = sym c.holds.ensures ∙ c.if-holds.false in
-    let w = roomy (fetch_size s) (length c.args.place.now) c.in-ok-length.length (sym c.write-fetch.ensures.answer ∙ c.in-ok-length.was) in
+    let w = roomy (fetch_size s) (length c.args.place.now) c.in_ok-length.length (sym c.write-fetch.ensures.answer ∙ c.in_ok-length.was) in
     let e = fetch_done p s z c.args.r c.args.place.now f i b (sym c.can-rise.ensures ∙ c.if-not-can-rise.false) w.0 in
     record {
       answer = (λ j. Ok (record { home = c.ask-home.ensures.named j; length = w.1 j })) ∙ says e;

@@ -38,8 +38,8 @@ returns-then-not-copy-judged g c =
     let e = read_unsound k p s z c.args.r f j in
     record { answer = ap Err c.of-site-then-not-copy-judged.ensures ∙ says e; after = leaves e }
 
-pub returns-in-err-idle-here : goal.returns-in-err-idle-here
-returns-in-err-idle-here g c =
+pub returns-in_err-idle-here : goal.returns-in_err-idle-here
+returns-in_err-idle-here g c =
     let m = c.args.placement.now in
     let k = g.V.ValueKind.kind in
     let p = placed (g.P.Placement.count m) (g.P.Placement.size m) (g.P.Placement.held m) (g.P.Homes.asked m) in
@@ -49,7 +49,7 @@ returns-in-err-idle-here g c =
     let h : bound_for p c.args.r s.site ≡ c.holds-held.result = sym c.holds-held.ensures in
     let j : copy_read_ok k p s c.args.r ≡ true = ap (λ b. not b || copy_ok k s (copy_of s c.args.r)) h ∙ sym c.copy-judged.ensures ∙ c.if-not-copy-judged.false in
     let y = err_from_is_err_and c.from-residual.result c.from-residual.ensures.1 in
-    let e = read_refused k p s z c.args.r f j c.in-err-idle-here.field-0.0 (sym c.idle_here.ensures ∙ c.in-err-idle-here.was) in
+    let e = read_refused k p s z c.args.r f j c.in_err-idle-here.field-0.0 (sym c.idle_here.ensures ∙ c.in_err-idle-here.was) in
     record { answer = y.1 ∙ ap Err y.2 ∙ says e; after = leaves e }
 
 pub returns-then-not-held : goal.returns-then-not-held
@@ -62,12 +62,12 @@ returns-then-not-held g c =
     let f : fits p s ≡ true = sym c.fits.ensures ∙ c.if-not-fits.false in
     let h : bound_for p c.args.r s.site ≡ c.holds-held.result = sym c.holds-held.ensures in
     let j : copy_read_ok k p s c.args.r ≡ true = ap (λ b. not b || copy_ok k s (copy_of s c.args.r)) h ∙ sym c.copy-judged.ensures ∙ c.if-not-copy-judged.false in
-    let i : idle_here s z c.args.r ≡ Ok tt = sym c.idle_here.ensures ∙ c.in-ok-idle-here.was in
+    let i : idle_here s z c.args.r ≡ Ok tt = sym c.idle_here.ensures ∙ c.in_ok-idle-here.was in
     let e = read_elsewhere k p s z c.args.r f j i (h ∙ c.if-not-held.true) in
     record { answer = ap Err c.of-site-then-not-held.ensures ∙ says e; after = leaves e }
 
-pub invariant-of-self : goal.invariant-of-self
-invariant-of-self g c =
+pub invariant_of-self : goal.invariant_of-self
+invariant_of-self g c =
     let m = c.args.placement.now in
     let k = g.V.ValueKind.kind in
     let p = placed (g.P.Placement.count m) (g.P.Placement.size m) (g.P.Placement.held m) (g.P.Homes.asked m) in
@@ -90,6 +90,6 @@ returns g c =
     let f : fits p s ≡ true = sym c.fits.ensures ∙ c.if-not-fits.false in
     let h : bound_for p c.args.r s.site ≡ c.holds-held.result = sym c.holds-held.ensures in
     let j : copy_read_ok k p s c.args.r ≡ true = ap (λ b. not b || copy_ok k s (copy_of s c.args.r)) h ∙ sym c.copy-judged.ensures ∙ c.if-not-copy-judged.false in
-    let i : idle_here s z c.args.r ≡ Ok tt = sym c.idle_here.ensures ∙ c.in-ok-idle-here.was in
-    let e = read_done k p s z c.args.r f j i (h ∙ c.if-not-held.false) c.in-ok-value.value (sym c.read.ensures ∙ c.in-ok-value.was) in
+    let i : idle_here s z c.args.r ≡ Ok tt = sym c.idle_here.ensures ∙ c.in_ok-idle-here.was in
+    let e = read_done k p s z c.args.r f j i (h ∙ c.if-not-held.false) c.in_ok-value.value (sym c.read.ensures ∙ c.in_ok-value.was) in
     record { answer = says e; after = ap (λ sent. re_sent s sent s.out) c.merge.ensures ∙ leaves e }

@@ -6,12 +6,12 @@ use Rattle.sites.specs.States.{state_of}
 use Rattle.sites.proofs.Limits.{merged_reply}
 use Rattle.sites.proofs.site.Site.try_take.Goals as goal
 
-pub invariant-of-self : goal.invariant-of-self
-invariant-of-self g c =
+pub invariant_of-self : goal.invariant_of-self
+invariant_of-self g c =
     let o = c.args.self.now in
     let bytes = c.args.bytes.now in
     let small : All (λ b. b < 256) bytes = All-from_get_or (λ b. b < 256) bytes 0 (λ i h. search rules) in
     let w =
-    merged_reply g.V.ValueKind.kind g.met.V.ValueKind.lawful (state_of o [] [] []) bytes c.in-ok-reply.reply c.merge.new.self.counts small
-    (sym c.read-reply.ensures ∙ c.in-ok-reply.was) (sym c.reply_for_here.ensures ∙ c.if-not-reply-for-here.false) o.sent_within c.merge.ensures in
+    merged_reply g.V.ValueKind.kind g.met.V.ValueKind.lawful (state_of o [] [] []) bytes c.in_ok-reply.reply c.merge.new.self.counts small
+    (sym c.read-reply.ensures ∙ c.in_ok-reply.was) (sym c.reply_for_here.ensures ∙ c.if-not-reply-for-here.false) o.sent_within c.merge.ensures in
     (o.inside, (o.updates_fit, (o.fetches_fit, (o.numbers_within, (w, (o.applied_within, tt))))))

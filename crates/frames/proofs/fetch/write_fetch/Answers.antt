@@ -14,13 +14,13 @@ unfolding fetch_frame
 returns c =
     let m = c.args.message.now in
     let q = c.args.place.now in
-    let p = c.put-column.new.place in
+    let p = c.put_column.new.place in
     let n = c.args.message.now.sites in
-    let room : c.fetch-size-size.result ≤ length c.args.place.now = omega arith in
-    let size : c.fetch-size-size.result ≡ bytes_for (fetch_bits c.args.message.now.sites) = c.fetch-size-size.ensures in
+    let room : c.fetch_size-size.result ≤ length c.args.place.now = omega arith in
+    let size : c.fetch_size-size.result ≡ bytes_for (fetch_bits c.args.message.now.sites) = c.fetch_size-size.ensures in
     let whole : length (bits_of c.args.place.now) ≡ 8 * length c.args.place.now = bits_of_length q in
     let t : ltb (length c.args.place.now) (bytes_for (fetch_bits c.args.message.now.sites)) ≡ false = le-ltb _ _ (omega arith) in
-    let sp : All (λ b. b < 256) c.put-column.new.place = All-from_get_or (λ b. b < 256) p 0 (λ i h. (c.type-inv.place i).fits) in
+    let sp : All (λ b. b < 256) c.put_column.new.place = All-from_get_or (λ b. b < 256) p 0 (λ i h. (c.type_inv.place i).fits) in
     let sq : All (λ b. b < 256) c.args.place.now = All-from_get_or (λ b. b < 256) c.args.place.now 0 (λ i h. search rules) in
     let B = bits_of q in
     let f0 : Fields = [] in
@@ -39,5 +39,5 @@ returns c =
       answer = rw t (ap Ok size);
       after =
           placed p q (bits_of c.put-6.new.place) (fetch_fields m) (take n m.column.counts) [] 46 (46 + 24 * n) (bytes_for (fetch_bits n)) n sp sq (search rules)
-          c.put-column.ensures.whole (omega arith) refl (omega arith) refl s5 c.put-column.ensures.laid;
+          c.put_column.ensures.whole (omega arith) refl (omega arith) refl s5 c.put_column.ensures.laid;
     }

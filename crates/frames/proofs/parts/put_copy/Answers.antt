@@ -10,9 +10,9 @@ returns g c =
     let many : c.area-area.result ≤ length c.args.matrix.now.counts = search rules in
     record {
       laid =
-          copy_laid k g.met.V.ValueKind.lawful c.args.value.now (bits_of c.args.place.now) (bits_of c.put-row.new.place) (bits_of c.copy.new.place) (bits_of c.put.new.place) (bits_of c.write-bits.result.bytes)
+          copy_laid k g.met.V.ValueKind.lawful c.args.value.now (bits_of c.args.place.now) (bits_of c.put_row.new.place) (bits_of c.copy.new.place) (bits_of c.put.new.place) (bits_of c.write-bits.result.bytes)
           c.args.matrix.now.counts c.args.at c.args.n c.area-area.result c.width-width.result c.bytes_for.result
           c.area-area.ensures.is c.width-width.ensures.exact many c.bytes_for.ensures (omega (arith, bits_of_length c.args.place.now, c.area-area.ensures.is, c.width-width.ensures.exact, c.bytes_for.ensures, c.requires))
-          c.put-row.ensures c.write-bits.ensures c.copy.ensures c.put.ensures;
+          c.put_row.ensures c.write-bits.ensures c.copy.ensures c.put.ensures;
       whole = simp length-take (omega (arith, many, c.area-area.ensures.is));
     }

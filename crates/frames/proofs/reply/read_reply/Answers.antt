@@ -15,7 +15,7 @@ returns-in_err-label g c =
     let ends : ℕ × ℕ = (c.in_ok-home.home, c.in_ok-home.reader) in
     let l : length c.args.bytes.now ≡ bytes_for (reply_bits g.V.ValueKind.kind c.in_ok-n.n) = search rules in
     let on = reply_onward k bytes n ends c.in_ok-n.ensures.answer l c.in_ok-home.ensures (search rules) in
-    let p = err_from_is_err_and c.from-residual-in_err-label.result c.from-residual-in_err-label.ensures.1 in
+    let p = err_from_is_err_and c.from_residual-in_err-label.result c.from_residual-in_err-label.ensures.1 in
     p.1 ∙ ap Err p.2 ∙ sym (on ∙ ap (λ r. onward r (λ copy. Ok (reply_of (bits_of bytes) n ends copy))) (sym c.in_err-label.ensures))
 
 pub returns : goal.returns

@@ -14,13 +14,13 @@ unfolding reply_frame
 returns g c =
     let m = c.args.message.now in
     let q = c.args.place.now in
-    let p = c.put-copy.new.place in
+    let p = c.put_copy.new.place in
     let n = c.args.message.now.sites in
-    let room : c.reply-size-size.result ≤ length c.args.place.now = omega arith in
-    let size : c.reply-size-size.result ≡ bytes_for (reply_bits g.V.ValueKind.kind c.args.message.now.sites) = c.reply-size-size.ensures in
+    let room : c.reply_size-size.result ≤ length c.args.place.now = omega arith in
+    let size : c.reply_size-size.result ≡ bytes_for (reply_bits g.V.ValueKind.kind c.args.message.now.sites) = c.reply_size-size.ensures in
     let whole : length (bits_of c.args.place.now) ≡ 8 * length c.args.place.now = bits_of_length q in
     let t : ltb (length c.args.place.now) (bytes_for (reply_bits g.V.ValueKind.kind c.args.message.now.sites)) ≡ false = le-ltb _ _ (omega arith) in
-    let sp : All (λ b. b < 256) c.put-copy.new.place = All-from_get_or (λ b. b < 256) p 0 (λ i h. (c.type-inv.place i).fits) in
+    let sp : All (λ b. b < 256) c.put_copy.new.place = All-from_get_or (λ b. b < 256) p 0 (λ i h. (c.type_inv.place i).fits) in
     let sq : All (λ b. b < 256) c.args.place.now = All-from_get_or (λ b. b < 256) c.args.place.now 0 (λ i h. search rules) in
     let B = bits_of q in
     let f0 : Fields = [] in
@@ -42,12 +42,12 @@ returns g c =
     let b7 = splice b6 47 (bits 3 (writer m.label)) in
     let s7 = field_laid B b6 b7 f7 3 (writer m.label) 47 s6 refl (omega arith) refl in
     let f8 : Fields = (4, 3) ∷ (4, m.sites) ∷ (3, m.home) ∷ (3, m.reader) ∷ (8, m.register) ∷ (24, m.number) ∷ (1, written m.label) ∷ (3, writer m.label) ∷ [] in
-    let s8 = field_laid B b7 (bits_of c.put-label.new.place) f8 24 (write_number m.label) 50 s7 refl (omega arith) c.put-label.ensures in
+    let s8 = field_laid B b7 (bits_of c.put_label.new.place) f8 24 (write_number m.label) 50 s7 refl (omega arith) c.put_label.ensures in
     let v = g.V.ValueKind.kind.bits m.value in
     let lv = g.met.V.ValueKind.lawful.sized m.value in
     record {
       answer = rw t (ap Ok size);
       after =
-          placed p q (bits_of c.put-label.new.place) (reply_fields m) (carried n m.matrix.counts) v 74 (74 + 24 * (n * n) + g.V.ValueKind.kind.width) (bytes_for (reply_bits g.V.ValueKind.kind n)) (n * n) sp sq (search rules)
-          c.put-copy.ensures.whole (ap (λ z. 74 + 24 * (n * n) + z) (sym lv)) refl (omega arith) refl s8 c.put-copy.ensures.laid;
+          placed p q (bits_of c.put_label.new.place) (reply_fields m) (carried n m.matrix.counts) v 74 (74 + 24 * (n * n) + g.V.ValueKind.kind.width) (bytes_for (reply_bits g.V.ValueKind.kind n)) (n * n) sp sq (search rules)
+          c.put_copy.ensures.whole (ap (λ z. 74 + 24 * (n * n) + z) (sym lv)) refl (omega arith) refl s8 c.put_copy.ensures.laid;
     }

@@ -14,13 +14,13 @@ unfolding update_frame
 returns g c =
     let m = c.args.message.now in
     let q = c.args.place.now in
-    let p = c.put-copy.new.place in
+    let p = c.put_copy.new.place in
     let n = c.args.message.now.sites in
-    let room : c.update-size-size.result ≤ length c.args.place.now = omega arith in
-    let size : c.update-size-size.result ≡ bytes_for (update_bits g.V.ValueKind.kind c.args.message.now.sites) = c.update-size-size.ensures in
+    let room : c.update_size-size.result ≤ length c.args.place.now = omega arith in
+    let size : c.update_size-size.result ≡ bytes_for (update_bits g.V.ValueKind.kind c.args.message.now.sites) = c.update_size-size.ensures in
     let whole : length (bits_of c.args.place.now) ≡ 8 * length c.args.place.now = bits_of_length q in
     let t : ltb (length c.args.place.now) (bytes_for (update_bits g.V.ValueKind.kind c.args.message.now.sites)) ≡ false = le-ltb _ _ (omega arith) in
-    let sp : All (λ b. b < 256) c.put-copy.new.place = All-from_get_or (λ b. b < 256) p 0 (λ i h. (c.type-inv.place i).fits) in
+    let sp : All (λ b. b < 256) c.put_copy.new.place = All-from_get_or (λ b. b < 256) p 0 (λ i h. (c.type_inv.place i).fits) in
     let sq : All (λ b. b < 256) c.args.place.now = All-from_get_or (λ b. b < 256) c.args.place.now 0 (λ i h. search rules) in
     let B = bits_of q in
     let f0 : Fields = [] in
@@ -39,5 +39,5 @@ returns g c =
       answer = rw t (ap Ok size);
       after =
           placed p q (bits_of c.put-5.new.place) (update_fields m) (carried n m.matrix.counts) v 43 (43 + 24 * (n * n) + g.V.ValueKind.kind.width) (bytes_for (update_bits g.V.ValueKind.kind n)) (n * n) sp sq (search rules)
-          c.put-copy.ensures.whole (ap (λ z. 43 + 24 * (n * n) + z) (sym lv)) refl (omega arith) refl s4 c.put-copy.ensures.laid;
+          c.put_copy.ensures.whole (ap (λ z. 43 + 24 * (n * n) + z) (sym lv)) refl (omega arith) refl s4 c.put_copy.ensures.laid;
     }

@@ -5,11 +5,11 @@ use Rattle.tables.specs.Judging.{numbered}
 use Rattle.tables.proofs.Everys.{passes, fails, ends}
 use Rattle.tables.proofs.fetches.fetches_ok.Goals as goal
 
-pub returns-then-not-fetch-ok : goal.returns-then-not-fetch-ok
-returns-then-not-fetch-ok c = sym (fails (fetch_ok (numbered 0 c.args.n c.args.registers)) c.args.fetches.now c.args.count c.loop-i.i c.requires.1 no_fetch c.loop-i-test.true (sym c.fetch_ok.ensures ∙ c.if-not-fetch-ok.true)) ∙ c.loop-i.invariant
+pub returns-then-not-fetch_ok : goal.returns-then-not-fetch_ok
+returns-then-not-fetch_ok c = sym (fails (fetch_ok (numbered 0 c.args.n c.args.registers)) c.args.fetches.now c.args.count c.loop-i.i c.requires.1 no_fetch c.loop-i-test.true (sym c.fetch_ok.ensures ∙ c.if-not-fetch_ok.true)) ∙ c.loop-i.invariant
 
 pub loop-i-preserved : goal.loop-i-preserved
-loop-i-preserved c = sym (passes (fetch_ok (numbered 0 c.args.n c.args.registers)) c.args.fetches.now c.args.count c.loop-i.i c.requires.1 no_fetch c.loop-i-test.true (sym c.fetch_ok.ensures ∙ c.if-not-fetch-ok.false)) ∙ c.loop-i.invariant
+loop-i-preserved c = sym (passes (fetch_ok (numbered 0 c.args.n c.args.registers)) c.args.fetches.now c.args.count c.loop-i.i c.requires.1 no_fetch c.loop-i-test.true (sym c.fetch_ok.ensures ∙ c.if-not-fetch_ok.false)) ∙ c.loop-i.invariant
 
 pub returns : goal.returns
 returns c = sym (ends (fetch_ok (numbered 0 c.args.n c.args.registers)) c.args.fetches.now c.args.count c.loop-i.i c.requires.1 c.loop-i-test.false) ∙ c.loop-i.invariant

@@ -7,7 +7,7 @@ use Rattle.clocks.specs.Sites.{has}
 use Rattle.clocks.proofs.CountLaws.{every_none, every_more}
 use Rattle.clocks.proofs.MatrixLaws.{room_each, room_fails}
 use Rattle.clocks.proofs.matrix.Matrix.has_room.Goals as goal
-use Rattle.clocks.proofs.matrix.Matrix.has_room.Goals.{else-has-via-then-has+else-not-can-rise, else-has-via-else-has}
+use Rattle.clocks.proofs.matrix.Matrix.has_room.Goals.{else-has-via-then-has+else-not-can_rise, else-has-via-else-has}
 
 pub loop-l-init : goal.loop-l-init
 loop-l-init c = every_none _
@@ -23,16 +23,16 @@ loop-l-preserved c =
     (room_each n m i h l
     (λ b.
     elim c.else-has.branch [
-      | else-has-via-then-has+else-not-can-rise w ↦
-          subst (λ t. t < limit) w.entry.ensures (ltb-true _ limit (sym w.can-rise.ensures ∙ w.if-not-can-rise.false))
+      | else-has-via-then-has+else-not-can_rise w ↦
+          subst (λ t. t < limit) w.entry.ensures (ltb-true _ limit (sym w.can_rise.ensures ∙ w.if-not-can_rise.false))
       | else-has-via-else-has w ↦ absurd (both_ways (has h l) (sym c.has.ensures ∙ w.if-has.false) b)
     ]))
 
-pub returns-then-not-can-rise : goal.returns-then-not-can-rise
-returns-then-not-can-rise c =
+pub returns-then-not-can_rise : goal.returns-then-not-can_rise
+returns-then-not-can_rise c =
     sym (room_fails c.args.n c.args.self.now.counts c.args.i c.args.holders c.loop-l.l (omega arith)
     (sym c.has.ensures ∙ c.if-has.true)
-    (subst (λ t. limit ≤ t) c.entry.ensures (ltb-false _ limit (sym c.can-rise.ensures ∙ c.if-not-can-rise.true))))
+    (subst (λ t. limit ≤ t) c.entry.ensures (ltb-false _ limit (sym c.can_rise.ensures ∙ c.if-not-can_rise.true))))
 
 pub returns : goal.returns
 returns c =

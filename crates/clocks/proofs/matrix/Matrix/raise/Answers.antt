@@ -14,7 +14,7 @@ overflow_add-self c =
     let n = c.args.n in
     let i = c.args.i in
     let l = c.loop-l.l in
-    let r = room_at n m i c.args.holders c.requires.2 l (omega arith) (sym c.has.ensures ∙ c.if-has.true) in
+    let r = room_at n m i c.args.holders c.requires.holders_value l (omega arith) (sym c.has.ensures ∙ c.if-has.true) in
     let v =
     ap (λ t. get_or t c.place.result 0) c.loop-l.invariant
     ∙ ap (λ t. get_or (raised_to n m i c.args.holders l) t 0) c.place.ensures.is
@@ -38,6 +38,6 @@ loop-l-preserved c =
 pub returns : goal.returns
 returns c =
     let e : c.loop-l.l ≡ c.args.n = omega arith in
-    let s : c.args.n * c.args.n ≤ length c.args.self.now.counts = omega (arith, area_le c.args.n c.requires.0) in
+    let s : c.args.n * c.args.n ≤ length c.args.self.now.counts = omega (arith, area_le c.args.n c.requires.n_bound) in
     c.loop-l.invariant ∙ ap (raised_to c.args.n c.args.self.now.counts c.args.i c.args.holders) e
-    ∙ raised_to_all c.args.n c.args.self.now.counts c.args.i c.args.holders s c.requires.1
+    ∙ raised_to_all c.args.n c.args.self.now.counts c.args.i c.args.holders s c.requires.i_lt_n

@@ -10,7 +10,7 @@ invariant_of-self c = (
     (omega arith, omega arith),
     (
       subst (λ (t : List ℕ). (r : ℕ) → r < length c.args.sets.now → (1 ≤ get_or t r 0) × (get_or t r 0 < 2 ^ c.args.sites)) (sym c.copied-table.ensures)
-          (padded_at c.args.sites c.args.sets.now (sym c.if-not-all-in-range.ensures)),
+          (padded_at c.args.sites c.args.sets.now (sym c.if-not-all_in_range.ensures)),
       tt,
     ),
   ),

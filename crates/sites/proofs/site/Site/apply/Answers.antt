@@ -9,8 +9,8 @@ use Rattle.sites.proofs.Fits.{Fitting, fitting}
 use Rattle.sites.proofs.Founds.{update_found}
 use Rattle.sites.proofs.site.Site.apply.Goals as goal
 
-pub apply-at-requires : goal.apply-at-requires
-apply-at-requires g c =
+pub apply_at-requires : goal.apply_at-requires
+apply_at-requires g c =
     let m = c.args.placement.now in
     let k = g.V.ValueKind.kind in
     let p = placed (g.P.Placement.count m) (g.P.Placement.size m) (g.P.Placement.held m) (g.P.Homes.asked m) in
@@ -18,7 +18,7 @@ apply-at-requires g c =
     let s = state_of o c.args.copies.now c.args.updates.now c.args.fetches.now in
     let f : fits p s ≡ true = sym c.fits.ensures ∙ c.if-not-fits.false in
     let t : Fitting p s = fitting p s f in
-    let u : updates_ok k s ≡ true = sym c.updates_ok.ensures ∙ c.if-not-updates-ok.false in
+    let u : updates_ok k s ≡ true = sym c.updates_ok.ensures ∙ c.if-not-updates_ok.false in
     let i : c.in-Some.index < o.updates_waiting = c.in-Some.ensures.within in
     let w = update_found k s c.in-Some.index (omega arith) i u in
     let e : c.oldest.new.places ≡ c.args.updates.now = c.oldest.ensures.same in (

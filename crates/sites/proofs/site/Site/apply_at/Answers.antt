@@ -10,7 +10,7 @@ pub invariant_of-self : goal.invariant_of-self
 invariant_of-self c =
     let o = c.args.self.now in
     let k = (get_or c.args.updates.now c.args.index no_update).sender in
-    let l : c.count.result < limit = ltb-true _ _ (sym c.can-rise.ensures ∙ c.if-not-can-rise.false) in
+    let l : c.count.result < limit = ltb-true _ _ (sym c.can_rise.ensures ∙ c.if-not-can_rise.false) in
     let b : get_or o.applied.counts k 0 < limit = rw (sym c.count.ensures) l in
     let w = raised_at_within o.sites o.applied.counts k b o.applied_within in
     (o.inside, ((omega arith, o.updates_fit.1), (o.fetches_fit, (o.numbers_within, (o.sent_within, (rw c.raise.ensures w, tt))))))

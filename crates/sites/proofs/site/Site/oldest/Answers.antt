@@ -9,5 +9,5 @@ pub returns : goal.returns
 returns g c =
     let o = c.args.self.now in
     let f : g.row.T.Denot → Bool = λ y. ready o.sites o.applied.counts (g.T.Need.needed y o.sites o.site) in
-    let e : c.oldest-ready.result ≡ first_where f 0 (take c.args.count c.args.places.now) = search rules in
-    record { found = e; within = found_below f c.args.places.now c.args.count c.requires c.oldest-ready.result e; same = search rules }
+    let e : c.oldest_ready.result ≡ first_where f 0 (take c.args.count c.args.places.now) = search rules in
+    record { found = e; within = found_below f c.args.places.now c.args.count c.requires c.oldest_ready.result e; same = search rules }

@@ -15,10 +15,10 @@ returns-in-OfUpdate g c =
     let p = placed (g.P.Placement.count m) (g.P.Placement.size m) (g.P.Placement.held m) (g.P.Homes.asked m) in
     let s = state_of c.args.self.now c.args.copies.now c.args.updates.now c.args.fetches.now in
     let f : fits p s ≡ true = sym c.fits.ensures ∙ c.if-not-fits.false in
-    let u : updates_ok k s ≡ true = sym c.updates_ok.ensures ∙ c.if-not-updates-ok.false in
-    let a : fetches_ok s ≡ true = sym c.fetches_ok.ensures ∙ c.if-not-fetches-ok.false in
-    let e = receive_on k p s c.args.bytes.now (OfUpdate c.in-OfUpdate.update) f u a (sym c.read-incoming.ensures ∙ c.in_ok-update.was ∙ ap Ok c.in-OfUpdate.is) in
-    record { answer = c.receive-update.ensures.answer c.args.copies.now c.args.fetches.now ∙ says e; after = c.receive-update.ensures.after c.args.copies.now c.args.fetches.now ∙ leaves e }
+    let u : updates_ok k s ≡ true = sym c.updates_ok.ensures ∙ c.if-not-updates_ok.false in
+    let a : fetches_ok s ≡ true = sym c.fetches_ok.ensures ∙ c.if-not-fetches_ok.false in
+    let e = receive_on k p s c.args.bytes.now (OfUpdate c.in-OfUpdate.update) f u a (sym c.read_incoming.ensures ∙ c.in_ok-update.was ∙ ap Ok c.in-OfUpdate.is) in
+    record { answer = c.receive_update.ensures.answer c.args.copies.now c.args.fetches.now ∙ says e; after = c.receive_update.ensures.after c.args.copies.now c.args.fetches.now ∙ leaves e }
 
 pub returns-in-OfFetch : goal.returns-in-OfFetch
 returns-in-OfFetch g c =
@@ -27,7 +27,7 @@ returns-in-OfFetch g c =
     let p = placed (g.P.Placement.count m) (g.P.Placement.size m) (g.P.Placement.held m) (g.P.Homes.asked m) in
     let s = state_of c.args.self.now c.args.copies.now c.args.updates.now c.args.fetches.now in
     let f : fits p s ≡ true = sym c.fits.ensures ∙ c.if-not-fits.false in
-    let u : updates_ok k s ≡ true = sym c.updates_ok.ensures ∙ c.if-not-updates-ok.false in
-    let a : fetches_ok s ≡ true = sym c.fetches_ok.ensures ∙ c.if-not-fetches-ok.false in
-    let e = receive_on k p s c.args.bytes.now (OfFetch c.in-OfFetch.fetch) f u a (sym c.read-incoming.ensures ∙ c.in_ok-update.was ∙ ap Ok c.in-OfFetch.is) in
-    record { answer = c.receive-fetch.ensures.answer c.args.copies.now c.args.updates.now ∙ says e; after = c.receive-fetch.ensures.after c.args.copies.now c.args.updates.now ∙ leaves e }
+    let u : updates_ok k s ≡ true = sym c.updates_ok.ensures ∙ c.if-not-updates_ok.false in
+    let a : fetches_ok s ≡ true = sym c.fetches_ok.ensures ∙ c.if-not-fetches_ok.false in
+    let e = receive_on k p s c.args.bytes.now (OfFetch c.in-OfFetch.fetch) f u a (sym c.read_incoming.ensures ∙ c.in_ok-update.was ∙ ap Ok c.in-OfFetch.is) in
+    record { answer = c.receive_fetch.ensures.answer c.args.copies.now c.args.updates.now ∙ says e; after = c.receive_fetch.ensures.after c.args.copies.now c.args.updates.now ∙ leaves e }

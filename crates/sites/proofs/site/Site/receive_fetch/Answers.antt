@@ -16,8 +16,8 @@ returns g c =
     let p = placed (g.P.Placement.count m) (g.P.Placement.size m) (g.P.Placement.held m) (g.P.Homes.asked m) in
     let o = c.args.self.now in
     let S : List Replica → List WaitingUpdate → State = λ copies others. state_of o copies others c.args.fetches.now in
-    let here : fetch_for_here p (S [] []) c.args.fetch.now ≡ true = sym c.fetch_for_here.ensures ∙ c.if-not-fetch-for-here.false in
-    let new : fetch_new (S [] []) c.args.fetch.now ≡ true = sym c.none-asked-by.ensures ∙ c.if-not-none-asked-by.false in
+    let here : fetch_for_here p (S [] []) c.args.fetch.now ≡ true = sym c.fetch_for_here.ensures ∙ c.if-not-fetch_for_here.false in
+    let new : fetch_new (S [] []) c.args.fetch.now ≡ true = sym c.none_asked_by.ensures ∙ c.if-not-none_asked_by.false in
     record {
       answer = λ copies others.
           c.push-pushed.ensures.answer

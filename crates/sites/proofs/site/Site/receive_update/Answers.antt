@@ -16,8 +16,8 @@ returns g c =
     let p = placed (g.P.Placement.count m) (g.P.Placement.size m) (g.P.Placement.held m) (g.P.Homes.asked m) in
     let o = c.args.self.now in
     let S : List Replica → List WaitingFetch → State = λ copies others. state_of o copies c.args.updates.now others in
-    let here : update_for_here p (S [] []) c.args.update ≡ true = sym c.update_for_here.ensures ∙ c.if-not-update-for-here.false in
-    let new : update_new (S [] []) c.args.update ≡ true = sym c.update_new.ensures ∙ c.if-not-update-new.false in
+    let here : update_for_here p (S [] []) c.args.update ≡ true = sym c.update_for_here.ensures ∙ c.if-not-update_for_here.false in
+    let new : update_new (S [] []) c.args.update ≡ true = sym c.update_new.ensures ∙ c.if-not-update_new.false in
     record {
       answer = λ copies others.
           c.push-pushed.ensures.answer

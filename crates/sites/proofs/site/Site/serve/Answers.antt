@@ -12,8 +12,8 @@ use Rattle.sites.proofs.Outcomes.{says, leaves, fills}
 use Rattle.sites.proofs.Serves.{serve_on}
 use Rattle.sites.proofs.site.Site.serve.Goals as goal
 
-pub serve-at-requires : goal.serve-at-requires
-serve-at-requires g c =
+pub serve_at-requires : goal.serve_at-requires
+serve_at-requires g c =
     let m = c.args.placement.now in
     let k = g.V.ValueKind.kind in
     let p = placed (g.P.Placement.count m) (g.P.Placement.size m) (g.P.Placement.held m) (g.P.Homes.asked m) in
@@ -21,7 +21,7 @@ serve-at-requires g c =
     let s = state_of o c.args.copies.now c.args.updates.now c.args.fetches.now in
     let f : fits p s ≡ true = sym c.fits.ensures ∙ c.if-not-fits.false in
     let t : Fitting p s = fitting p s f in
-    let u : fetches_ok s ≡ true = sym c.fetches_ok.ensures ∙ c.if-not-fetches-ok.false in
+    let u : fetches_ok s ≡ true = sym c.fetches_ok.ensures ∙ c.if-not-fetches_ok.false in
     let i : c.in-Some.index < o.fetches_waiting = c.in-Some.ensures.within in
     let w = fetch_found s c.in-Some.index (omega arith) i u in
     let e : c.oldest.new.places ≡ c.args.fetches.now = c.oldest.ensures.same in
@@ -35,14 +35,14 @@ returns-in-Some g c =
     let o = c.args.self.now in
     let s = state_of o c.args.copies.now c.args.updates.now c.args.fetches.now in
     let f : fits p s ≡ true = sym c.fits.ensures ∙ c.if-not-fits.false in
-    let u : fetches_ok s ≡ true = sym c.fetches_ok.ensures ∙ c.if-not-fetches-ok.false in
+    let u : fetches_ok s ≡ true = sym c.fetches_ok.ensures ∙ c.if-not-fetches_ok.false in
     let n = c.in-Some.index in
     let pl = c.args.place.now in
     let e = serve_on k p s pl n f u (sym c.oldest.ensures.found ∙ c.in-Some.is) in
     let O : List WaitingFetch → Outcome Served = λ xs. served_at k (state_of o c.args.copies.now c.args.updates.now xs) pl n (get_or xs n no_fetch) in
     let q : O c.oldest.new.places ≡ O c.args.fetches.now = ap O c.oldest.ensures.same in
     record {
-      answer = c.serve-at.ensures.answer c.args.updates.now ∙ ap (λ (x : Outcome Served). x.answer) q ∙ says e;
-      after = c.serve-at.ensures.after c.args.updates.now ∙ ap (λ (x : Outcome Served). x.after) q ∙ leaves e;
-      place = c.serve-at.ensures.place c.args.updates.now ∙ ap (λ (x : Outcome Served). x.place) q ∙ fills e;
+      answer = c.serve_at.ensures.answer c.args.updates.now ∙ ap (λ (x : Outcome Served). x.answer) q ∙ says e;
+      after = c.serve_at.ensures.after c.args.updates.now ∙ ap (λ (x : Outcome Served). x.after) q ∙ leaves e;
+      place = c.serve_at.ensures.place c.args.updates.now ∙ ap (λ (x : Outcome Served). x.place) q ∙ fills e;
     }

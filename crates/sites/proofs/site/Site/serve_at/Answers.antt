@@ -11,7 +11,7 @@ use Rattle.sites.proofs.site.Site.serve_at.Goals as goal
 
 pub returns-in_err-length : goal.returns-in_err-length
 returns-in_err-length g c =
-    let y = err_from_is_err_and c.from-residual.result c.from-residual.ensures.1 in
+    let y = err_from_is_err_and c.from_residual.result c.from_residual.ensures.1 in
     let s : List WaitingUpdate → State = λ updates. state_of c.args.self.now c.args.copies.now updates c.args.fetches.now in
     let f = get_or c.args.fetches.now c.args.index no_fetch in
     let q = sym c.reply.ensures.answer ∙ c.in_err-length.was in

@@ -20,22 +20,22 @@ returns-then-holds g c =
     let s = state_of c.args.self.now c.args.copies.now c.args.updates.now c.args.fetches.now in
     let z = idle c.args.session.now in
     let f : fits p s ≡ true = sym c.fits.ensures ∙ c.if-not-fits.false in
-    let i : idle_here s z c.args.r ≡ Ok tt = sym c.idle_here.ensures ∙ c.in_ok-idle-here.was in
+    let i : idle_here s z c.args.r ≡ Ok tt = sym c.idle_here.ensures ∙ c.in_ok-idle_here.was in
     let b : bound_for p c.args.r s.site ≡ true = sym c.holds.ensures ∙ c.if-holds.true in
     let e = fetch_held p s z c.args.r c.args.place.now f i b in
-    record { answer = ap Err c.of-site-then-holds.ensures ∙ says e; after = leaves e; place = fills e; below = tt }
+    record { answer = ap Err c.of_site-then-holds.ensures ∙ says e; after = leaves e; place = fills e; below = tt }
 
-pub returns-then-not-can-rise : goal.returns-then-not-can-rise
-returns-then-not-can-rise g c =
+pub returns-then-not-can_rise : goal.returns-then-not-can_rise
+returns-then-not-can_rise g c =
     let m = c.args.placement.now in
     let p = placed (g.P.Placement.count m) (g.P.Placement.size m) (g.P.Placement.held m) (g.P.Homes.asked m) in
     let s = state_of c.args.self.now c.args.copies.now c.args.updates.now c.args.fetches.now in
     let z = idle c.args.session.now in
     let f : fits p s ≡ true = sym c.fits.ensures ∙ c.if-not-fits.false in
-    let i : idle_here s z c.args.r ≡ Ok tt = sym c.idle_here.ensures ∙ c.in_ok-idle-here.was in
+    let i : idle_here s z c.args.r ≡ Ok tt = sym c.idle_here.ensures ∙ c.in_ok-idle_here.was in
     let b : bound_for p c.args.r s.site ≡ false = sym c.holds.ensures ∙ c.if-holds.false in
-    let e = fetch_full p s z c.args.r c.args.place.now f i b (sym c.can-rise.ensures ∙ c.if-not-can-rise.true) in
-    record { answer = ap Err c.of-site-then-not-can-rise.ensures ∙ says e; after = leaves e; place = fills e; below = tt }
+    let e = fetch_full p s z c.args.r c.args.place.now f i b (sym c.can_rise.ensures ∙ c.if-not-can_rise.true) in
+    record { answer = ap Err c.of_site-then-not-can_rise.ensures ∙ says e; after = leaves e; place = fills e; below = tt }
 
 pub returns-in_err-length : goal.returns-in_err-length
 returns-in_err-length g c =
@@ -44,15 +44,15 @@ returns-in_err-length g c =
     let s = state_of c.args.self.now c.args.copies.now c.args.updates.now c.args.fetches.now in
     let z = idle c.args.session.now in
     let f : fits p s ≡ true = sym c.fits.ensures ∙ c.if-not-fits.false in
-    let i : idle_here s z c.args.r ≡ Ok tt = sym c.idle_here.ensures ∙ c.in_ok-idle-here.was in
+    let i : idle_here s z c.args.r ≡ Ok tt = sym c.idle_here.ensures ∙ c.in_ok-idle_here.was in
     let b : bound_for p c.args.r s.site ≡ false = sym c.holds.ensures ∙ c.if-holds.false in
-    let y = err_from_is_err_and c.from-residual-in_err-length.result c.from-residual-in_err-length.ensures.1 in
-    let w = cramped (fetch_size s) (length c.args.place.now) c.in_err-length.field-0.0 (sym c.write-fetch.ensures.answer ∙ c.in_err-length.was) in
-    let e = fetch_cramped p s z c.args.r c.args.place.now f i b (sym c.can-rise.ensures ∙ c.if-not-can-rise.false) w.0 in
+    let y = err_from_is_err_and c.from_residual-in_err-length.result c.from_residual-in_err-length.ensures.1 in
+    let w = cramped (fetch_size s) (length c.args.place.now) c.in_err-length.field-0.0 (sym c.write_fetch.ensures.answer ∙ c.in_err-length.was) in
+    let e = fetch_cramped p s z c.args.r c.args.place.now f i b (sym c.can_rise.ensures ∙ c.if-not-can_rise.false) w.0 in
     record {
       answer = y.1 ∙ ap Err (y.2 ∙ w.1) ∙ says e;
       after = leaves e;
-      place = c.write-fetch.ensures.after ∙ place_kept _ _ _ w.0 ∙ fills e;
+      place = c.write_fetch.ensures.after ∙ place_kept _ _ _ w.0 ∙ fills e;
       below = rw y.1 tt;
     }
 
@@ -63,15 +63,15 @@ returns g c =
     let s = state_of c.args.self.now c.args.copies.now c.args.updates.now c.args.fetches.now in
     let z = idle c.args.session.now in
     let f : fits p s ≡ true = sym c.fits.ensures ∙ c.if-not-fits.false in
-    let i : idle_here s z c.args.r ≡ Ok tt = sym c.idle_here.ensures ∙ c.in_ok-idle-here.was in
+    let i : idle_here s z c.args.r ≡ Ok tt = sym c.idle_here.ensures ∙ c.in_ok-idle_here.was in
     let b : bound_for p c.args.r s.site ≡ false = sym c.holds.ensures ∙ c.if-holds.false in
-    let w = roomy (fetch_size s) (length c.args.place.now) c.in_ok-length.length (sym c.write-fetch.ensures.answer ∙ c.in_ok-length.was) in
-    let e = fetch_done p s z c.args.r c.args.place.now f i b (sym c.can-rise.ensures ∙ c.if-not-can-rise.false) w.0 in
+    let w = roomy (fetch_size s) (length c.args.place.now) c.in_ok-length.length (sym c.write_fetch.ensures.answer ∙ c.in_ok-length.was) in
+    let e = fetch_done p s z c.args.r c.args.place.now f i b (sym c.can_rise.ensures ∙ c.if-not-can_rise.false) w.0 in
     record {
       answer = (λ j. Ok (record { home = c.ask-home.ensures.named j; length = w.1 j })) ∙ says e;
       after = (λ j. awaiting s (s.fetched + 1) (Some (c.args.r, c.ask-home.ensures.named j))) ∙ leaves e;
       place =
-          c.write-fetch.ensures.after
+          c.write_fetch.ensures.after
           ∙ (λ j. write_place (fetch_size s) (fetch_frame (record {
             sites = s.sites;
             reader = s.site;
@@ -81,5 +81,5 @@ returns g c =
             column = record { counts = (c.column.ensures ∙ ap (column s.sites s.sent) c.ask-home.ensures.named) j };
           })) c.args.place.now)
           ∙ fills e;
-      below = let q = idle_shown s z c.args.r i in let l = ltb-true _ _ (sym c.can-rise.ensures ∙ c.if-not-can-rise.false) in omega arith;
+      below = let q = idle_shown s z c.args.r i in let l = ltb-true _ _ (sym c.can_rise.ensures ∙ c.if-not-can_rise.false) in omega arith;
     }

@@ -12,8 +12,8 @@ use Rattle.sites.proofs.LocalReads.{read_unsound, read_refused, read_elsewhere, 
 use Rattle.sites.proofs.Outcomes.{says, leaves, re_sent}
 use Rattle.sites.proofs.site.Site.try_read.Goals as goal
 
-pub copy-judged-requires : goal.copy-judged-requires
-copy-judged-requires g c κs e =
+pub copy_judged-requires : goal.copy_judged-requires
+copy_judged-requires g c κs e =
     let m = c.args.placement.now in
     let k = g.V.ValueKind.kind in
     let p = placed (g.P.Placement.count m) (g.P.Placement.size m) (g.P.Placement.held m) (g.P.Homes.asked m) in
@@ -25,8 +25,8 @@ copy-judged-requires g c κs e =
     let b = held_below (g.P.Placement.size m) c.args.r (bound_for p c.args.r s.site) (g.met.P.Placement.none m c.args.r s.site) (h ∙ e) in
     omega arith
 
-pub returns-then-not-copy-judged : goal.returns-then-not-copy-judged
-returns-then-not-copy-judged g c =
+pub returns-then-not-copy_judged : goal.returns-then-not-copy_judged
+returns-then-not-copy_judged g c =
     let m = c.args.placement.now in
     let k = g.V.ValueKind.kind in
     let p = placed (g.P.Placement.count m) (g.P.Placement.size m) (g.P.Placement.held m) (g.P.Homes.asked m) in
@@ -34,12 +34,12 @@ returns-then-not-copy-judged g c =
     let z = idle c.args.session.now in
     let f : fits p s ≡ true = sym c.fits.ensures ∙ c.if-not-fits.false in
     let h : bound_for p c.args.r s.site ≡ c.holds-held.result = sym c.holds-held.ensures in
-    let j : copy_read_ok k p s c.args.r ≡ false = ap (λ b. not b || copy_ok k s (copy_of s c.args.r)) h ∙ sym c.copy-judged.ensures ∙ c.if-not-copy-judged.true in
+    let j : copy_read_ok k p s c.args.r ≡ false = ap (λ b. not b || copy_ok k s (copy_of s c.args.r)) h ∙ sym c.copy_judged.ensures ∙ c.if-not-copy_judged.true in
     let e = read_unsound k p s z c.args.r f j in
-    record { answer = ap Err c.of-site-then-not-copy-judged.ensures ∙ says e; after = leaves e }
+    record { answer = ap Err c.of_site-then-not-copy_judged.ensures ∙ says e; after = leaves e }
 
-pub returns-in_err-idle-here : goal.returns-in_err-idle-here
-returns-in_err-idle-here g c =
+pub returns-in_err-idle_here : goal.returns-in_err-idle_here
+returns-in_err-idle_here g c =
     let m = c.args.placement.now in
     let k = g.V.ValueKind.kind in
     let p = placed (g.P.Placement.count m) (g.P.Placement.size m) (g.P.Placement.held m) (g.P.Homes.asked m) in
@@ -47,9 +47,9 @@ returns-in_err-idle-here g c =
     let z = idle c.args.session.now in
     let f : fits p s ≡ true = sym c.fits.ensures ∙ c.if-not-fits.false in
     let h : bound_for p c.args.r s.site ≡ c.holds-held.result = sym c.holds-held.ensures in
-    let j : copy_read_ok k p s c.args.r ≡ true = ap (λ b. not b || copy_ok k s (copy_of s c.args.r)) h ∙ sym c.copy-judged.ensures ∙ c.if-not-copy-judged.false in
-    let y = err_from_is_err_and c.from-residual.result c.from-residual.ensures.1 in
-    let e = read_refused k p s z c.args.r f j c.in_err-idle-here.field-0.0 (sym c.idle_here.ensures ∙ c.in_err-idle-here.was) in
+    let j : copy_read_ok k p s c.args.r ≡ true = ap (λ b. not b || copy_ok k s (copy_of s c.args.r)) h ∙ sym c.copy_judged.ensures ∙ c.if-not-copy_judged.false in
+    let y = err_from_is_err_and c.from_residual.result c.from_residual.ensures.1 in
+    let e = read_refused k p s z c.args.r f j c.in_err-idle_here.field-0.0 (sym c.idle_here.ensures ∙ c.in_err-idle_here.was) in
     record { answer = y.1 ∙ ap Err y.2 ∙ says e; after = leaves e }
 
 pub returns-then-not-held : goal.returns-then-not-held
@@ -61,10 +61,10 @@ returns-then-not-held g c =
     let z = idle c.args.session.now in
     let f : fits p s ≡ true = sym c.fits.ensures ∙ c.if-not-fits.false in
     let h : bound_for p c.args.r s.site ≡ c.holds-held.result = sym c.holds-held.ensures in
-    let j : copy_read_ok k p s c.args.r ≡ true = ap (λ b. not b || copy_ok k s (copy_of s c.args.r)) h ∙ sym c.copy-judged.ensures ∙ c.if-not-copy-judged.false in
-    let i : idle_here s z c.args.r ≡ Ok tt = sym c.idle_here.ensures ∙ c.in_ok-idle-here.was in
+    let j : copy_read_ok k p s c.args.r ≡ true = ap (λ b. not b || copy_ok k s (copy_of s c.args.r)) h ∙ sym c.copy_judged.ensures ∙ c.if-not-copy_judged.false in
+    let i : idle_here s z c.args.r ≡ Ok tt = sym c.idle_here.ensures ∙ c.in_ok-idle_here.was in
     let e = read_elsewhere k p s z c.args.r f j i (h ∙ c.if-not-held.true) in
-    record { answer = ap Err c.of-site-then-not-held.ensures ∙ says e; after = leaves e }
+    record { answer = ap Err c.of_site-then-not-held.ensures ∙ says e; after = leaves e }
 
 pub invariant_of-self : goal.invariant_of-self
 invariant_of-self g c =
@@ -75,7 +75,7 @@ invariant_of-self g c =
     let z = idle c.args.session.now in
     let f : fits p s ≡ true = sym c.fits.ensures ∙ c.if-not-fits.false in
     let h : bound_for p c.args.r s.site ≡ c.holds-held.result = sym c.holds-held.ensures in
-    let j : copy_read_ok k p s c.args.r ≡ true = ap (λ b. not b || copy_ok k s (copy_of s c.args.r)) h ∙ sym c.copy-judged.ensures ∙ c.if-not-copy-judged.false in
+    let j : copy_read_ok k p s c.args.r ≡ true = ap (λ b. not b || copy_ok k s (copy_of s c.args.r)) h ∙ sym c.copy_judged.ensures ∙ c.if-not-copy_judged.false in
     let w = merged_copy k p s c.args.r c.merge.new.self.counts (h ∙ c.if-not-held.false) j c.args.self.now.sent_within c.merge.ensures in
     let o = c.args.self.now in
     (o.inside, (o.updates_fit, (o.fetches_fit, (o.numbers_within, (w, (o.applied_within, tt))))))
@@ -89,7 +89,7 @@ returns g c =
     let z = idle c.args.session.now in
     let f : fits p s ≡ true = sym c.fits.ensures ∙ c.if-not-fits.false in
     let h : bound_for p c.args.r s.site ≡ c.holds-held.result = sym c.holds-held.ensures in
-    let j : copy_read_ok k p s c.args.r ≡ true = ap (λ b. not b || copy_ok k s (copy_of s c.args.r)) h ∙ sym c.copy-judged.ensures ∙ c.if-not-copy-judged.false in
-    let i : idle_here s z c.args.r ≡ Ok tt = sym c.idle_here.ensures ∙ c.in_ok-idle-here.was in
+    let j : copy_read_ok k p s c.args.r ≡ true = ap (λ b. not b || copy_ok k s (copy_of s c.args.r)) h ∙ sym c.copy_judged.ensures ∙ c.if-not-copy_judged.false in
+    let i : idle_here s z c.args.r ≡ Ok tt = sym c.idle_here.ensures ∙ c.in_ok-idle_here.was in
     let e = read_done k p s z c.args.r f j i (h ∙ c.if-not-held.false) c.in_ok-value.value (sym c.read.ensures ∙ c.in_ok-value.was) in
     record { answer = says e; after = ap (λ sent. re_sent s sent s.out) c.merge.ensures ∙ leaves e }

@@ -13,5 +13,5 @@ invariant_of-self g c =
     let small : All (λ b. b < 256) bytes = All-from_get_or (λ b. b < 256) bytes 0 (λ i h. search rules) in
     let w =
     merged_reply g.V.ValueKind.kind g.met.V.ValueKind.lawful (state_of o [] [] []) bytes c.in_ok-reply.reply c.merge.new.self.counts small
-    (sym c.read-reply.ensures ∙ c.in_ok-reply.was) (sym c.reply_for_here.ensures ∙ c.if-not-reply-for-here.false) o.sent_within c.merge.ensures in
+    (sym c.read_reply.ensures ∙ c.in_ok-reply.was) (sym c.reply_for_here.ensures ∙ c.if-not-reply_for_here.false) o.sent_within c.merge.ensures in
     (o.inside, (o.updates_fit, (o.fetches_fit, (o.numbers_within, (w, (o.applied_within, tt))))))

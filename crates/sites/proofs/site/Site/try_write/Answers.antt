@@ -16,8 +16,8 @@ use Rattle.sites.proofs.Outcomes.{idle_below, says, leaves, fills}
 use Rattle.sites.proofs.Writes.{room_so, others_so, roomy_for, sends, write_refused, write_full, write_cramped, write_done}
 use Rattle.sites.proofs.site.Site.try_write.Goals as goal
 
-pub returns-in_err-idle-here : goal.returns-in_err-idle-here
-returns-in_err-idle-here g c =
+pub returns-in_err-idle_here : goal.returns-in_err-idle_here
+returns-in_err-idle_here g c =
     let m = c.args.placement.now in
     let k = g.V.ValueKind.kind in
     let p = placed (g.P.Placement.count m) (g.P.Placement.size m) (g.P.Placement.held m) (g.P.Homes.asked m) in
@@ -25,12 +25,12 @@ returns-in_err-idle-here g c =
     let z = idle c.args.session.now in
     let r = c.args.r in
     let f : fits p s ≡ true = sym c.fits.ensures ∙ c.if-not-fits.false in
-    let y = err_from_is_err_and c.from-residual.result c.from-residual.ensures.1 in
-    let e = write_refused k p s z r c.args.value c.args.place.now f c.in_err-idle-here.field-0.0 (sym c.idle_here.ensures ∙ c.in_err-idle-here.was) in
+    let y = err_from_is_err_and c.from_residual.result c.from_residual.ensures.1 in
+    let e = write_refused k p s z r c.args.value c.args.place.now f c.in_err-idle_here.field-0.0 (sym c.idle_here.ensures ∙ c.in_err-idle_here.was) in
     record { answer = y.1 ∙ ap Err y.2 ∙ says e; after = leaves e; place = fills e }
 
-pub returns-then-not-room-for : goal.returns-then-not-room-for
-returns-then-not-room-for g c =
+pub returns-then-not-room_for : goal.returns-then-not-room_for
+returns-then-not-room_for g c =
     let m = c.args.placement.now in
     let k = g.V.ValueKind.kind in
     let p = placed (g.P.Placement.count m) (g.P.Placement.size m) (g.P.Placement.held m) (g.P.Homes.asked m) in
@@ -39,10 +39,10 @@ returns-then-not-room-for g c =
     let r = c.args.r in
     let f : fits p s ≡ true = sym c.fits.ensures ∙ c.if-not-fits.false in
     let t : Fitting p s = fitting p s f in
-    let i : idle_here s z r ≡ Ok tt = sym c.idle_here.ensures ∙ c.in_ok-idle-here.was in
-    let a : can_write p s r ≡ false = sym (room_so p s r c.holders-holders.result t.sites c.args.self.now.inside.0 c.holders-holders.ensures) ∙ sym c.room-for.ensures ∙ c.if-not-room-for.true in
+    let i : idle_here s z r ≡ Ok tt = sym c.idle_here.ensures ∙ c.in_ok-idle_here.was in
+    let a : can_write p s r ≡ false = sym (room_so p s r c.holders-holders.result t.sites c.args.self.now.inside.0 c.holders-holders.ensures) ∙ sym c.room_for.ensures ∙ c.if-not-room_for.true in
     let e = write_full k p s z r c.args.value c.args.place.now f i a in
-    record { answer = ap Err c.of-site-then-not-room-for.ensures ∙ says e; after = leaves e; place = fills e }
+    record { answer = ap Err c.of_site-then-not-room_for.ensures ∙ says e; after = leaves e; place = fills e }
 
 pub returns-in_err-length : goal.returns-in_err-length
 returns-in_err-length g c =
@@ -54,11 +54,11 @@ returns-in_err-length g c =
     let r = c.args.r in
     let f : fits p s ≡ true = sym c.fits.ensures ∙ c.if-not-fits.false in
     let t : Fitting p s = fitting p s f in
-    let i : idle_here s z r ≡ Ok tt = sym c.idle_here.ensures ∙ c.in_ok-idle-here.was in
-    let a : can_write p s r ≡ true = sym (room_so p s r c.holders-holders.result t.sites c.args.self.now.inside.0 c.holders-holders.ensures) ∙ sym c.room-for.ensures ∙ c.if-not-room-for.false in
+    let i : idle_here s z r ≡ Ok tt = sym c.idle_here.ensures ∙ c.in_ok-idle_here.was in
+    let a : can_write p s r ≡ true = sym (room_so p s r c.holders-holders.result t.sites c.args.self.now.inside.0 c.holders-holders.ensures) ∙ sym c.room_for.ensures ∙ c.if-not-room_for.false in
     let o : c.without-others.result ≡ others p r s.site = c.without-others.ensures ∙ others_so p s r c.holders-holders.result t.sites c.args.self.now.inside.0 c.holders-holders.ensures in
     let d : c.raise.new.self.counts ≡ grown p s r = c.raise.ensures ∙ ap (raised s.sites s.sent s.site) c.holders-holders.ensures in
-    let y = err_from_is_err_and c.from-residual-in_err-length.result c.from-residual-in_err-length.ensures.1 in
+    let y = err_from_is_err_and c.from_residual-in_err-length.result c.from_residual-in_err-length.ensures.1 in
     let q = sym (ap (sends k p s z r c.args.value c.args.place.now f) o) ∙ sym c.send.ensures.answer ∙ c.in_err-length.was in
     let w =
     c.send.ensures.place
@@ -82,9 +82,9 @@ note-requires g c =
     let z = idle c.args.session.now in
     let r = c.args.r in
     let f : fits p s ≡ true = sym c.fits.ensures ∙ c.if-not-fits.false in
-    let q = roomy_for s c.holders-holders.result (sym c.room-for.ensures ∙ c.if-not-room-for.false) in
+    let q = roomy_for s c.holders-holders.result (sym c.room_for.ensures ∙ c.if-not-room_for.false) in
     let t : Fitting p s = fitting p s f in
-    let i : idle_here s z r ≡ Ok tt = sym c.idle_here.ensures ∙ c.in_ok-idle-here.was in
+    let i : idle_here s z r ≡ Ok tt = sym c.idle_here.ensures ∙ c.in_ok-idle_here.was in
     let l = idle_below s z r i in
     let w = raised_within s.sites s.sent s.site c.holders-holders.result q.row c.args.self.now.sent_within in
     (q.number, omega arith, λ h. q.own (sym c.has.ensures ∙ h), rw c.raise.ensures w)
@@ -99,8 +99,8 @@ returns g c =
     let r = c.args.r in
     let f : fits p s ≡ true = sym c.fits.ensures ∙ c.if-not-fits.false in
     let t : Fitting p s = fitting p s f in
-    let i : idle_here s z r ≡ Ok tt = sym c.idle_here.ensures ∙ c.in_ok-idle-here.was in
-    let a : can_write p s r ≡ true = sym (room_so p s r c.holders-holders.result t.sites c.args.self.now.inside.0 c.holders-holders.ensures) ∙ sym c.room-for.ensures ∙ c.if-not-room-for.false in
+    let i : idle_here s z r ≡ Ok tt = sym c.idle_here.ensures ∙ c.in_ok-idle_here.was in
+    let a : can_write p s r ≡ true = sym (room_so p s r c.holders-holders.result t.sites c.args.self.now.inside.0 c.holders-holders.ensures) ∙ sym c.room_for.ensures ∙ c.if-not-room_for.false in
     let o : c.without-others.result ≡ others p r s.site = c.without-others.ensures ∙ others_so p s r c.holders-holders.result t.sites c.args.self.now.inside.0 c.holders-holders.ensures in
     let d : c.raise.new.self.counts ≡ grown p s r = c.raise.ensures ∙ ap (raised s.sites s.sent s.site) c.holders-holders.ensures in
     let q = sym (ap (sends k p s z r c.args.value c.args.place.now f) o) ∙ sym c.send.ensures.answer ∙ c.in_ok-length.was in

@@ -5,5 +5,5 @@ use Rattle.values.proofs.block.kind.sample.Goals as goal
 
 pub returns : goal.returns
 returns c =
-    to_z-of_z w16 c.cast-signed.result (record { sfits = c.cast-signed.type-inv }) ∙ c.cast-signed.ensures
+    to_z-of_z w16 c.cast_signed.result (record { sfits = c.cast_signed.type_inv }) ∙ c.cast_signed.ensures
     ∙ ap (to_z w16) (and_mask c.get.result 16 ∙ mod-eq_of_lt c.get.ensures.small ∙ c.get.ensures.value)

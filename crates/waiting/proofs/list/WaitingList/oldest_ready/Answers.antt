@@ -11,8 +11,8 @@ loop-i-preserved g c =
     (search (rules, length-take)) (search (rules, get_or-take)) (search rules))
     ∙ c.loop-i.invariant
 
-pub returns-then-nowhere-below : goal.returns-then-nowhere-below
-returns-then-nowhere-below g c =
+pub returns-then-nowhere_below : goal.returns-then-nowhere_below
+returns-then-nowhere_below g c =
     sym (first_hit (λ y. nowhere_below c.args.n c.args.applied.now.counts (g.T.Need.needed y c.args.n c.args.site))
     (take c.args.self.now.count c.args.self.now.places.now) c.loop-i.i c.index-places-i.result
     (search (rules, length-take)) (search (rules, get_or-take)) (search rules))

@@ -7,5 +7,5 @@ use Rattle.placements.proofs.listed.calls.ListedHomes.home.Goals as goal
 pub returns-else-has : goal.returns-else-has
 returns-else-has c h k =
     let p = c.args.self.now in
-    c.first-of.ensures ∙ listed_lowest p.sites p.registers c.args.r p.sets k
+    c.first_of.ensures ∙ listed_lowest p.sites p.registers c.args.r p.sets k
     ∙ sym (cond-false _ _ _ (listed_has p.sites p.registers c.args.r p.sets k c.args.reader h ∙ sym c.has.ensures ∙ c.if-has.false))

@@ -12,14 +12,14 @@ pub returns : goal.returns
 unfolding plain blank
 returns c =
     let v = c.args.self.now in
-    let x0 = c.cast-unsigned.result in
-    let x1 = c.cast-unsigned-2.result in
-    let x2 = c.cast-unsigned-3.result in
-    let x3 = c.cast-unsigned-4.result in
-    let x4 = c.cast-unsigned-5.result in
-    let x5 = c.cast-unsigned-6.result in
-    let x6 = c.cast-unsigned-7.result in
-    let x7 = c.cast-unsigned-8.result in
+    let x0 = c.cast_unsigned.result in
+    let x1 = c.cast_unsigned-2.result in
+    let x2 = c.cast_unsigned-3.result in
+    let x3 = c.cast_unsigned-4.result in
+    let x4 = c.cast_unsigned-5.result in
+    let x5 = c.cast_unsigned-6.result in
+    let x6 = c.cast_unsigned-7.result in
+    let x7 = c.cast_unsigned-8.result in
     let s0 = sample_laid (blank) (bits_of c.put.new.place) ([]) x0 0 none_laid (omega arith) (omega arith) c.put.ensures in
     let s1 = sample_laid (bits_of c.put.new.place) (bits_of c.put-2.new.place) (x0 ∷ []) x1 16 s0 (omega arith) (omega arith) c.put-2.ensures in
     let s2 = sample_laid (bits_of c.put-2.new.place) (bits_of c.put-3.new.place) (x0 ∷ x1 ∷ []) x2 32 s1 (omega arith) (omega arith) c.put-3.ensures in
@@ -31,11 +31,11 @@ returns c =
     all_laid (x0 ∷ x1 ∷ x2 ∷ x3 ∷ x4 ∷ x5 ∷ x6 ∷ x7 ∷ []) (bits_of c.put-8.new.place) refl s7
     ∙ ap (λ ns. row 16 ns ++ replicate 128 false)
     (samples_are v x0 x1 x2 x3 x4 x5 x6 x7
-    (c.cast-unsigned.ensures ∙ ap (of_z w16) (to_z-of_z w16 v.first (record { sfits = v.first_fits })))
-    (c.cast-unsigned-2.ensures ∙ ap (of_z w16) (to_z-of_z w16 v.second (record { sfits = v.second_fits })))
-    (c.cast-unsigned-3.ensures ∙ ap (of_z w16) (to_z-of_z w16 v.third (record { sfits = v.third_fits })))
-    (c.cast-unsigned-4.ensures ∙ ap (of_z w16) (to_z-of_z w16 v.fourth (record { sfits = v.fourth_fits })))
-    (c.cast-unsigned-5.ensures ∙ ap (of_z w16) (to_z-of_z w16 v.fifth (record { sfits = v.fifth_fits })))
-    (c.cast-unsigned-6.ensures ∙ ap (of_z w16) (to_z-of_z w16 v.sixth (record { sfits = v.sixth_fits })))
-    (c.cast-unsigned-7.ensures ∙ ap (of_z w16) (to_z-of_z w16 v.seventh (record { sfits = v.seventh_fits })))
-    (c.cast-unsigned-8.ensures ∙ ap (of_z w16) (to_z-of_z w16 v.eighth (record { sfits = v.eighth_fits }))))
+    (c.cast_unsigned.ensures ∙ ap (of_z w16) (to_z-of_z w16 v.first (record { sfits = v.first_fits })))
+    (c.cast_unsigned-2.ensures ∙ ap (of_z w16) (to_z-of_z w16 v.second (record { sfits = v.second_fits })))
+    (c.cast_unsigned-3.ensures ∙ ap (of_z w16) (to_z-of_z w16 v.third (record { sfits = v.third_fits })))
+    (c.cast_unsigned-4.ensures ∙ ap (of_z w16) (to_z-of_z w16 v.fourth (record { sfits = v.fourth_fits })))
+    (c.cast_unsigned-5.ensures ∙ ap (of_z w16) (to_z-of_z w16 v.fifth (record { sfits = v.fifth_fits })))
+    (c.cast_unsigned-6.ensures ∙ ap (of_z w16) (to_z-of_z w16 v.sixth (record { sfits = v.sixth_fits })))
+    (c.cast_unsigned-7.ensures ∙ ap (of_z w16) (to_z-of_z w16 v.seventh (record { sfits = v.seventh_fits })))
+    (c.cast_unsigned-8.ensures ∙ ap (of_z w16) (to_z-of_z w16 v.eighth (record { sfits = v.eighth_fits }))))

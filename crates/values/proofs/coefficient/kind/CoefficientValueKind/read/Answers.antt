@@ -7,4 +7,4 @@ use Rattle.values.proofs.coefficient.kind.CoefficientValueKind.read.Goals as goa
 pub returns : goal.returns
 unfolding taken
 returns c =
-    ap Ok (same_coefficient _ _ (to_z-of_z w32 c.cast-signed.result (record { sfits = c.cast-signed.type-inv }) ∙ c.cast-signed.ensures ∙ ap (to_z w32) c.get.ensures.value))
+    ap Ok (same_coefficient _ _ (to_z-of_z w32 c.cast_signed.result (record { sfits = c.cast_signed.type_inv }) ∙ c.cast_signed.ensures ∙ ap (to_z w32) c.get.ensures.value))

@@ -10,5 +10,5 @@ pub returns : goal.returns
 unfolding plain blank
 returns c =
     let v = c.args.self.now in
-    c.put.ensures ∙ over_blank (bits 32 c.cast-unsigned.result) 32 (bits_length 32 c.cast-unsigned.result)
-    ∙ ap (λ n. bits 32 n ++ replicate 224 false) (c.cast-unsigned.ensures ∙ ap (of_z w32) (to_z-of_z w32 v.value (record { sfits = v.fits })))
+    c.put.ensures ∙ over_blank (bits 32 c.cast_unsigned.result) 32 (bits_length 32 c.cast_unsigned.result)
+    ∙ ap (λ n. bits 32 n ++ replicate 224 false) (c.cast_unsigned.ensures ∙ ap (of_z w32) (to_z-of_z w32 v.value (record { sfits = v.fits })))

@@ -28,13 +28,13 @@ impl Placement for Full {
 
     ghost held = { λ p r. full_held p.sites p.registers r };
 
-    ghost few = { first_of (Prim.search rules, Prim.grind (arith, Self.row.coded.inj)) };
+    ghost few = { Prim.search rules };
 
-    ghost sized = { first_of (Prim.search rules, Prim.grind (arith, Self.row.coded.inj)) };
+    ghost sized = { Prim.search rules };
 
-    ghost outside = { first_of (Prim.search rules, Prim.grind (arith, Self.row.coded.inj)) };
+    ghost outside = { Prim.search rules };
 
-    ghost none = { first_of (Prim.search rules, Prim.grind (arith, Self.row.coded.inj)) };
+    ghost none = { Prim.search rules };
 
     ghost some = { λ p r k. (0, and_from (nat_lt r p.registers) (nat_lt 0 p.sites) (lt-ltb r p.registers k) (lt-ltb 0 p.sites (omega (arith, p.many.0)))) };
 
@@ -58,9 +58,9 @@ impl Placement for Full {
 impl Homes for Full {
     ghost asked = { λ p l r. l };
 
-    ghost own = { first_of (Prim.search rules, Prim.grind (arith, Self.row.coded.inj)) };
+    ghost own = { Prim.search rules };
 
-    ghost other = { first_of (Prim.search rules, Prim.grind (arith, Self.row.coded.inj)) };
+    ghost other = { Prim.search rules };
 
     fn home(&self, reader: u8, r: u16) -> u8 {
         reader

@@ -98,13 +98,13 @@ impl Placement for Listed {
 
     ghost held = { λ p r. listed_held p.sites p.registers p.sets r };
 
-    ghost few = { first_of (Prim.search rules, Prim.grind (arith, Self.row.coded.inj)) };
+    ghost few = { Prim.search rules };
 
-    ghost sized = { first_of (Prim.search rules, Prim.grind (arith, Self.row.coded.inj)) };
+    ghost sized = { Prim.search rules };
 
-    ghost outside = { first_of (Prim.search rules, Prim.grind (arith, Self.row.coded.inj)) };
+    ghost outside = { Prim.search rules };
 
-    ghost none = { first_of (Prim.search rules, Prim.grind (arith, Self.row.coded.inj)) };
+    ghost none = { Prim.search rules };
 
     ghost some = { λ p r k. let a = p.each r k in let s = listed_some p.sites p.registers r p.sets k a.0 a.1 in (s.0, s.2) };
 
@@ -128,7 +128,7 @@ impl Placement for Listed {
 impl Homes for Listed {
     ghost asked = { λ p. listed_home p.sites p.registers p.sets };
 
-    ghost own = { first_of (Prim.search rules, Prim.grind (arith, Self.row.coded.inj)) };
+    ghost own = { Prim.search rules };
 
     ghost other = { λ p l r h k.
         let a = p.each r k in

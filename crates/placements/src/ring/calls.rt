@@ -72,13 +72,13 @@ impl Placement for Ring {
 
     ghost held = { λ p r. ring_held p.sites p.copies p.registers r };
 
-    ghost few = { first_of (Prim.search rules, Prim.grind (arith, Self.row.coded.inj)) };
+    ghost few = { Prim.search rules };
 
-    ghost sized = { first_of (Prim.search rules, Prim.grind (arith, Self.row.coded.inj)) };
+    ghost sized = { Prim.search rules };
 
-    ghost outside = { first_of (Prim.search rules, Prim.grind (arith, Self.row.coded.inj)) };
+    ghost outside = { Prim.search rules };
 
-    ghost none = { first_of (Prim.search rules, Prim.grind (arith, Self.row.coded.inj)) };
+    ghost none = { Prim.search rules };
 
     ghost some = { λ p r k. (r % p.sites, ring_first p.sites p.copies p.registers r (omega (arith, p.many.0)) (omega (arith, p.held.0)) k) };
 
@@ -102,7 +102,7 @@ impl Placement for Ring {
 impl Homes for Ring {
     ghost asked = { λ p. ring_home p.sites p.copies p.registers };
 
-    ghost own = { first_of (Prim.search rules, Prim.grind (arith, Self.row.coded.inj)) };
+    ghost own = { Prim.search rules };
 
     ghost other = { λ p l r h k.
         cond_both (ring_held p.sites p.copies p.registers r l) l (r % p.sites)

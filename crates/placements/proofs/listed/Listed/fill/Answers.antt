@@ -4,14 +4,10 @@ use Rattle.placements.specs.ListedLaws.{padded_at}
 use Rattle.placements.proofs.listed.Listed.fill.Goals as goal
 
 pub invariant_of-self : goal.invariant_of-self
-invariant_of-self c = (
-  (omega arith, omega arith),
-  (
-    (omega arith, omega arith),
-    (
+invariant_of-self c = record {
+  many = (omega arith, omega arith);
+  size = (omega arith, omega arith);
+  each =
       subst (λ (t : List ℕ). (r : ℕ) → r < length c.args.sets.now → (1 ≤ get_or t r 0) × (get_or t r 0 < 2 ^ c.args.sites)) (sym c.copied-table.ensures)
-          (padded_at c.args.sites c.args.sets.now (sym c.if-not-all_in_range.ensures)),
-      tt,
-    ),
-  ),
-)
+      (padded_at c.args.sites c.args.sets.now (sym c.if-not-all_in_range.ensures));
+}

@@ -20,8 +20,8 @@ pub fn layouts()
 
 // At every value kind: a frame that was written reads back as its message, and bytes that are accepted as a message are its frame.
 pub fn inverse<V: ValueKind>()
-    ensures back { ReadsBack kind }
-    ensures only { AcceptsOnlyFrames kind }
+    ensures back { ReadsBack V.kind }
+    ensures only { AcceptsOnlyFrames V.kind }
 {}
 
 // The same at each of the kinds that there are.

@@ -66,8 +66,8 @@ pub fn column(bytes: &[u8], at: usize, n: u8) -> Row
 
 // The value from a bit on; a refusal's place is counted from the frame's start.
 pub fn value<V: ValueKind + Drop>(bytes: &[u8], at: usize) -> Result<V, Fault>
-    requires { (at < 2 ^ 31) × (at + kind.width ≤ 8 * length bytes.now) }
-    ensures { result ≡ value_at kind (bits_of bytes.now) at }
+    requires { (at < 2 ^ 31) × (at + V.kind.width ≤ 8 * length bytes.now) }
+    ensures { result ≡ value_at V.kind (bits_of bytes.now) at }
 {
     let mut bits = Bits { bytes: [0; 32] };
     copy(&mut bits.bytes, 0, bytes, at, V::width() as usize);
@@ -91,8 +91,8 @@ pub fn filled(bytes: &[u8], end: usize) -> bool
 
 // Lays a copy behind a frame's fields: the counts of its matrix, its value, and zeros that fill the last byte.
 pub fn put_copy<V: ValueKind>(place: &mut [u8], at: usize, n: u8, matrix: &Matrix, value: &V)
-    requires { (n ≤ 8) × ((at < 2 ^ 31) × (bytes_for (at + 24 * (n * n) + kind.width) ≤ length place.old)) }
-    ensures laid { bits_of place.new ≡ splice (bits_of place.old) at (row_of 24 (carried n matrix.now.counts) ++ (kind.bits value.now ++ filling (at + 24 * (n * n) + kind.width))) }
+    requires { (n ≤ 8) × ((at < 2 ^ 31) × (bytes_for (at + 24 * (n * n) + V.kind.width) ≤ length place.old)) }
+    ensures laid { bits_of place.new ≡ splice (bits_of place.old) at (row_of 24 (carried n matrix.now.counts) ++ (V.kind.bits value.now ++ filling (at + 24 * (n * n) + V.kind.width))) }
     ensures whole { length (carried n matrix.now.counts) ≡ n * n }
 {
     let area = area(n);

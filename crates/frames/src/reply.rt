@@ -57,8 +57,8 @@ fn ends(bytes: &[u8], n: u8) -> Result<(u8, u8), Fault>
 
 // Label and value of the copy that a reply brings, up to its last bit.
 fn copy<V: ValueKind + Drop>(bytes: &[u8], n: u8) -> Result<(Option<(u8, u32)>, V), Fault>
-    requires { (n ≤ 8) × (length bytes.now ≡ bytes_for (reply_bits kind n)) }
-    ensures { result ≡ copy_read kind bytes.now (bits_of bytes.now) n }
+    requires { (n ≤ 8) × (length bytes.now ≡ bytes_for (reply_bits V.kind n)) }
+    ensures { result ≡ copy_read V.kind bytes.now (bits_of bytes.now) n }
 {
     let label = label(bytes)?;
     let at = 74 + 24 * area(n);
@@ -72,7 +72,7 @@ fn copy<V: ValueKind + Drop>(bytes: &[u8], n: u8) -> Result<(Option<(u8, u32)>, 
 
 // The reply that bytes are the frame of, or the first field that is refused.
 pub fn read_reply<V: ValueKind + Drop>(bytes: &[u8]) -> Result<Reply<V>, Fault>
-    ensures { result ≡ reply_read kind bytes.now }
+    ensures { result ≡ reply_read V.kind bytes.now }
 {
     let n = opened(bytes, 3)?;
     if bytes.len() != bytes_for(74 + 24 * area(n) + V::width() as usize) {
@@ -101,7 +101,7 @@ pub fn read_reply<V: ValueKind + Drop>(bytes: &[u8]) -> Result<Reply<V>, Fault>
 // How many bytes the frame of a reply has.
 pub fn reply_size<V: ValueKind>(n: u8) -> usize
     requires { n ≤ 8 }
-    ensures { result ≡ bytes_for (reply_bits kind n) }
+    ensures { result ≡ bytes_for (reply_bits V.kind n) }
 {
     bytes_for(74 + 24 * area(n) + V::width() as usize)
 }
@@ -124,8 +124,8 @@ fn put_label(place: &mut [u8], label: Option<(u8, u32)>)
 // refused with 18 and stays as it was.
 pub fn write_reply<V: ValueKind>(message: &Reply<V>, place: &mut [u8]) -> Result<usize, Fault>
     requires { message.now.sites ≤ 8 }
-    ensures answer { result ≡ write_answer (bytes_for (reply_bits kind message.now.sites)) (length place.old) }
-    ensures after { place.new ≡ write_place (bytes_for (reply_bits kind message.now.sites)) (reply_frame kind message.now) place.old }
+    ensures answer { result ≡ write_answer (bytes_for (reply_bits V.kind message.now.sites)) (length place.old) }
+    ensures after { place.new ≡ write_place (bytes_for (reply_bits V.kind message.now.sites)) (reply_frame V.kind message.now) place.old }
 {
     let size = reply_size::<V>(message.sites);
     if place.len() < size {

@@ -14,7 +14,7 @@ use values::kind::ValueKind;
 
 // The update that bytes are the frame of, or the first field that is refused.
 pub fn read_update<V: ValueKind + Drop>(bytes: &[u8]) -> Result<Update<V>, Fault>
-    ensures { result ≡ update_read kind bytes.now }
+    ensures { result ≡ update_read V.kind bytes.now }
 {
     let n = opened(bytes, 1)?;
     let at = 43 + 24 * area(n);
@@ -49,7 +49,7 @@ pub fn read_update<V: ValueKind + Drop>(bytes: &[u8]) -> Result<Update<V>, Fault
 // How many bytes the frame of an update has.
 pub fn update_size<V: ValueKind>(n: u8) -> usize
     requires { n ≤ 8 }
-    ensures { result ≡ bytes_for (update_bits kind n) }
+    ensures { result ≡ bytes_for (update_bits V.kind n) }
 {
     bytes_for(43 + 24 * area(n) + V::width() as usize)
 }
@@ -58,8 +58,8 @@ pub fn update_size<V: ValueKind>(n: u8) -> usize
 // refused with 18 and stays as it was.
 pub fn write_update<V: ValueKind>(message: &Update<V>, place: &mut [u8]) -> Result<usize, Fault>
     requires { message.now.sites ≤ 8 }
-    ensures answer { result ≡ write_answer (bytes_for (update_bits kind message.now.sites)) (length place.old) }
-    ensures after { place.new ≡ write_place (bytes_for (update_bits kind message.now.sites)) (update_frame kind message.now) place.old }
+    ensures answer { result ≡ write_answer (bytes_for (update_bits V.kind message.now.sites)) (length place.old) }
+    ensures after { place.new ≡ write_place (bytes_for (update_bits V.kind message.now.sites)) (update_frame V.kind message.now) place.old }
 {
     let size = update_size::<V>(message.sites);
     if place.len() < size {

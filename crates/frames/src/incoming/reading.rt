@@ -11,7 +11,7 @@ use values::kind::ValueKind;
 
 // The update or the fetch that bytes are the frame of, or the first field that is refused. Any other kind is refused at bit 0.
 pub fn read_incoming<V: ValueKind + Drop>(bytes: &[u8]) -> Result<Incoming<V>, Fault>
-    ensures { result ≡ incoming_read kind bytes.now }
+    ensures { result ≡ incoming_read V.kind bytes.now }
 {
     if bytes.len() > 0 && get(bytes, 0, 4) == 2 {
         let fetch = read_fetch(bytes)?;

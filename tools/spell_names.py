@@ -42,11 +42,20 @@ def wants(name):
 def own():
     """The names that the repository declares: definitions, lemmas, fields and constructors, each with the files that declare it."""
     found = {}
-    for path in files("specs", "proofs"):
+    for path in files("src", "specs", "proofs"):
+        # a name that a file gives to what it imports
+        for line in read(path).split("\n"):
+            if re.match(r"\s*(ghost )?use ", line):
+                for name in re.findall(r" as ([^\s,}]+)", line):
+                    if wants(name):
+                        found.setdefault(name, set()).add(path)
         if not path.endswith(".antt"):
             continue
         lines = read(path).split("\n")
-        for k, line in enumerate(lines):
+        for line in lines:
+            for name in re.findall(r"\blet ([^\s(){}:=]+)", line) + re.findall(r"[(λ ]\(?([a-z]+-[a-z]+) : ", line):
+                if wants(name) and not line.lstrip().startswith("--"):
+                    found.setdefault(name, set()).add(path)
             if line.lstrip().startswith("--") or re.match(r"\s*(use|let|in)\b", line):
                 continue
             m = HEAD.match(line)

@@ -18,16 +18,16 @@ put_at bs pos left k value c h kl kr e nz =
     let s = 8 - pos % 8 - k in
     let b = get_or bs (pos / 8) 0 in
     let x = value / 2 ^ (left - k) % 2 ^ k in
-    let x-bits : bits k x ≡ bits k (value / 2 ^ (left - k)) = bits_last k (value / 2 ^ (left - k)) in
+    let x_bits : bits k x ≡ bits k (value / 2 ^ (left - k)) = bits_last k (value / 2 ^ (left - k)) in
     let j : 8 - (k + s) ≡ pos % 8 = omega arith in
     let at : 8 * (pos / 8) + pos % 8 ≡ pos = omega arith in
-    let k-len : length (bits k x) ≡ k = bits_length k x in
+    let k_len : length (bits k x) ≡ k = bits_length k x in
     let byte : bits 8 c ≡ splice (bits 8 b) (pos % 8) (bits k x) = ap (bits 8) e ∙ patched b x k s (omega arith) (mod_below (value / 2 ^ (left - k)) (2 ^ k) (pow_pos k)) ∙ ap (λ z. splice (bits 8 b) z (bits k x)) j in
     let all : bits_of (set bs (pos / 8) c) ≡ splice (bits_of bs) pos (bits k x) = bits_of_set bs (pos / 8) c (pos % 8) (bits k x) (omega arith) (omega arith) byte ∙ ap (λ z. splice (bits_of bs) z (bits k x)) at in
     let fits : pos + length (bits k x) ≤ length (bits_of bs) = omega (arith, bits_of_length bs) in
     let sum : k + (left - k) ≡ left = omega arith in
-    let both : bits k x ++ bits (left - k) value ≡ bits left value = ap (λ l. l ++ bits (left - k) value) x-bits ∙ sym (bits_append k (left - k) value) ∙ ap (λ w. bits w value) sum in
-    ap₂ (λ l z. splice l z (bits (left - k) value)) all (ap (λ z. pos + z) (sym k-len))
+    let both : bits k x ++ bits (left - k) value ≡ bits left value = ap (λ l. l ++ bits (left - k) value) x_bits ∙ sym (bits_append k (left - k) value) ∙ ap (λ w. bits w value) sum in
+    ap₂ (λ l z. splice l z (bits (left - k) value)) all (ap (λ z. pos + z) (sym k_len))
     ∙ splice_splice (bits_of bs) (bits k x) (bits (left - k) value) pos fits
     ∙ ap (splice (bits_of bs) pos) both
 
@@ -88,7 +88,7 @@ pub copy_step : (xs ys bs : List Bool) (at start width done k x : ℕ) → done 
 copy_step xs ys bs at start width done k x h f g ex ey =
     let part = take k (drop (start + done) bs) in
     let len : length part ≡ k = simp (length-take, length-drop) (omega arith) in
-    let x-is : bits k x ≡ part = ap₂ bits (sym len) ex ∙ bits_num part in
+    let x_is : bits k x ≡ part = ap₂ bits (sym len) ex ∙ bits_num part in
     let a : at + (done + k) ≡ at + done + length part = omega arith in
     let b : start + (done + k) ≡ start + done + k = omega arith in
     let d : width - done ≡ k + (width - (done + k)) = omega arith in
@@ -96,7 +96,7 @@ copy_step xs ys bs at start width done k x h f g ex ey =
     let all : take (width - done) (drop (start + done) bs) ≡ part ++ rest =
     ap (λ z. take z (drop (start + done) bs)) d ∙ take-add k (width - (done + k)) (drop (start + done) bs)
     ∙ ap (λ l. part ++ take (width - (done + k)) l) (drop-drop k (start + done) bs ∙ ap (λ z. drop z bs) (sym b)) in
-    ap₂ (λ l z. splice l z rest) (ey ∙ ap (splice xs (at + done)) x-is) a
+    ap₂ (λ l z. splice l z rest) (ey ∙ ap (splice xs (at + done)) x_is) a
     ∙ splice_splice xs part rest (at + done) (omega arith)
     ∙ ap (splice xs (at + done)) (sym all)
 

@@ -172,23 +172,23 @@ all_laid ps qs P fs cs vs at end sp sq l e room a ep eq =
     let lw : length (body fs cs vs ++ filling (length (body fs cs vs))) ≡ 8 * bytes_for (length (body fs cs vs)) = whole_length (body fs cs vs) in
     let joined : laid fs ++ (row 24 cs ++ (vs ++ filling end)) ≡ ws =
     sym (append_assoc (laid fs) (row 24 cs ++ vs) (filling end) ∙ ap (λ l. laid fs ++ l) (append_assoc (row 24 cs) vs (filling end))) ∙ ap (λ k. body fs cs vs ++ filling k) (sym le) in
-    let laid-all : bits_of ps ≡ ws ++ drop (8 * n) (bits_of qs) =
+    let laid_all : bits_of ps ≡ ws ++ drop (8 * n) (bits_of qs) =
     eq ∙ ap (λ p. splice p at (row 24 cs ++ (vs ++ filling end))) ep
     ∙ splice_next (bits_of qs) (laid fs) (row 24 cs ++ (vs ++ filling end)) at (laid_length fs ∙ sym a) (omega (arith, bits_of_length qs))
     ∙ ap (splice (bits_of qs) 0) joined ∙ splice_front (bits_of qs) ws ∙ ap (λ k. ws ++ drop k (bits_of qs)) lw in
-    bytes_from ps qs ws n sp sq l (rw le room) lw laid-all ∙ ap (λ k. bytes_by n ws ++ drop k qs) (sym (bytes_length n ws))
+    bytes_from ps qs ws n sp sq l (rw le room) lw laid_all ∙ ap (λ k. bytes_by n ws ++ drop k qs) (sym (bytes_length n ws))
 
 -- a matrix, a value and the filling, laid one after the other
-pub copy_laid : {V : Type 0} (k : Kind V) → Lawful k → (v : V) (B P Q R plain-bits : List Bool) (counts : List ℕ) (at n area w size : ℕ) → area ≡ n * n → w ≡ k.width → area ≤ length counts
+pub copy_laid : {V : Type 0} (k : Kind V) → Lawful k → (v : V) (B P Q R plain_bits : List Bool) (counts : List ℕ) (at n area w size : ℕ) → area ≡ n * n → w ≡ k.width → area ≤ length counts
     → size ≡ bytes_for (at + 24 * area + w) → 8 * size ≤ length B
-    → P ≡ splice B at (row 24 (take (area - 0) counts)) → plain-bits ≡ plain k v → Q ≡ splice P (at + 24 * area) (run plain-bits 0 w) → R ≡ splice Q (at + 24 * area + w) (bits (8 * size - (at + 24 * area + w)) 0)
+    → P ≡ splice B at (row 24 (take (area - 0) counts)) → plain_bits ≡ plain k v → Q ≡ splice P (at + 24 * area) (run plain_bits 0 w) → R ≡ splice Q (at + 24 * area + w) (bits (8 * size - (at + 24 * area + w)) 0)
     → R ≡ splice B at (row 24 (take (n * n) counts) ++ (k.bits v ++ filling (at + 24 * (n * n) + k.width)))
 unfolding plain filling
-copy_laid k law v B P Q R plain-bits counts at n area w size ea ew many es room p pl q r =
+copy_laid k law v B P Q R plain_bits counts at n area w size ea ew many es room p pl q r =
     let X = row 24 (take area counts) in
     let lt : length (take area counts) ≡ area = simp length-take (omega arith) in
     let lx : length (row 24 (take area counts)) ≡ 24 * area = row_length 24 (take area counts) ∙ ap (λ m. 24 * m) lt in
-    let value : run plain-bits 0 w ≡ k.bits v = ap₂ (λ l m. take m l) pl ew ∙ take_at (k.bits v) (replicate (256 - k.width) false) k.width (law.sized v) in
+    let value : run plain_bits 0 w ≡ k.bits v = ap₂ (λ l m. take m l) pl ew ∙ take_at (k.bits v) (replicate (256 - k.width) false) k.width (law.sized v) in
     let lv : length (k.bits v) ≡ w = law.sized v ∙ sym ew in
     let z : bits (8 * size - (at + 24 * area + w)) 0 ≡ filling (at + 24 * area + w) = ap (λ m. bits (8 * m - (at + 24 * area + w)) 0) es ∙ bits_zero (8 * bytes_for (at + 24 * area + w) - (at + 24 * area + w)) in
     let a1 : at + 24 * area ≡ at + length (row 24 (take area counts)) = omega arith in

@@ -149,7 +149,7 @@ module _ {V : Type 0} (k : Kind V) (law : Lawful k) where
       let same : x ≡ m = cc in
       let vbits : run B (43 + 24 * (n * n)) k.width ≡ k.bits v =
       law.only (run B (43 + 24 * (n * n)) k.width) v (simp (length-take, length-drop) (omega arith)) (from_passed (43 + 24 * (n * n)) _ v d.1) in
-      let bytes-are : bytes ≡ update_frame k x =
+      let bytes_are : bytes ≡ update_frame k x =
       only_frames_carry bytes (update_fields x) (n * n) k.width small size (op.kind_is, (op.count_is, (refl, (refl, (refl, tt))))) (eqb-true _ _ f.0)
       ∙ ap₂ (framed (update_fields x)) (counts_taken 64 (n * n) B 43) vbits in
       let good : UpdateInRange x = record {
@@ -160,7 +160,7 @@ module _ {V : Type 0} (k : Kind V) (law : Lawful k) where
         matrix = counts_good 64 (n * n) B 43 (omega arith);
       } in
       let clean : update_clean x ≡ x = ap (λ l. record { sites = n; sender = x.sender; register = x.register; number = x.number; matrix = record { counts = l }; value = v }) (counts_clean 64 (n * n) B 43) in
-      subst (λ y. (bytes ≡ update_frame k y) × UpdateInRange y × (update_clean y ≡ y)) same (bytes-are, good, clean)
+      subst (λ y. (bytes ≡ update_frame k y) × UpdateInRange y × (update_clean y ≡ y)) same (bytes_are, good, clean)
 
   -- replies
 
@@ -275,7 +275,7 @@ module _ {V : Type 0} (k : Kind V) (law : Lawful k) where
       let same : x ≡ m = ap₂ (reply_of B n) p2 p1 ∙ last in
       let vbits : run B (74 + 24 * (n * n)) k.width ≡ k.bits v =
       law.only (run B (74 + 24 * (n * n)) k.width) v (simp (length-take, length-drop) (omega arith)) (from_passed (74 + 24 * (n * n)) _ v d.1) in
-      let bytes-are : bytes ≡ reply_frame k x =
+      let bytes_are : bytes ≡ reply_frame k x =
       only_frames_carry bytes (reply_fields x) (n * n) k.width small size
       (op.kind_is, (op.count_is, (refl, (refl, (refl, (refl, (lab.written_is, (lab.writer_is, (lab.number_is, tt))))))))) (eqb-true _ _ f.0)
       ∙ ap₂ (framed (reply_fields x)) (counts_taken 64 (n * n) B 74) vbits in
@@ -289,7 +289,7 @@ module _ {V : Type 0} (k : Kind V) (law : Lawful k) where
         matrix = counts_good 64 (n * n) B 74 (omega arith);
       } in
       let clean : reply_clean x ≡ x = ap (λ l. record { sites = n; home = x.home; reader = x.reader; register = x.register; number = x.number; label = x.label; matrix = record { counts = l }; value = v }) (counts_clean 64 (n * n) B 74) in
-      subst (λ y. (bytes ≡ reply_frame k y) × ReplyInRange y × (reply_clean y ≡ y)) same (bytes-are, good, clean)
+      subst (λ y. (bytes ≡ reply_frame k y) × ReplyInRange y × (reply_clean y ≡ y)) same (bytes_are, good, clean)
 
 -- fetches
 
@@ -341,7 +341,7 @@ fetch_only bytes m small e =
     let x : Fetch = fetch_of B n in
     let same : x ≡ m = cc in
     let z : 46 + 24 * o.0 + 0 ≡ fetch_bits o.0 = omega arith in
-    let bytes-are : bytes ≡ fetch_frame x =
+    let bytes_are : bytes ≡ fetch_frame x =
     only_frames_carry bytes (fetch_fields x) n 0 small (size ∙ ap bytes_for (sym z)) (op.kind_is, (op.count_is, (refl, (refl, (refl, (refl, tt)))))) (ap (λ i. field B i (8 * length bytes - i)) z ∙ eqb-true _ _ f.0)
     ∙ ap (λ l. framed (fetch_fields x) l []) (counts_taken 8 n B 46) in
     let good : FetchInRange x = record {
@@ -353,7 +353,7 @@ fetch_only bytes m small e =
       column = counts_good 8 n B 46 (omega arith);
     } in
     let clean : fetch_clean x ≡ x = ap (λ l. record { sites = n; reader = x.reader; home = x.home; register = x.register; number = x.number; column = record { counts = l } }) (counts_clean 8 n B 46) in
-    subst (λ y. (bytes ≡ fetch_frame y) × FetchInRange y × (fetch_clean y ≡ y)) same (bytes-are, good, clean)
+    subst (λ y. (bytes ≡ fetch_frame y) × FetchInRange y × (fetch_clean y ≡ y)) same (bytes_are, good, clean)
 
 pub reads_back : {V : Type 0} (k : Kind V) → Lawful k → ReadsBack k
 reads_back k law = (update_back k law, fetch_back, reply_back k law)

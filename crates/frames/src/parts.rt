@@ -4,7 +4,7 @@ ghost use Rattle.fields.specs.Bits.{bits_of};
 ghost use Rattle.fields.specs.Fields.{row as row_of, splice};
 ghost use Rattle.frames.specs.Layouts.{bytes_for, filling};
 ghost use Rattle.frames.specs.Messages.{carried};
-ghost use Rattle.frames.specs.Reading.{opened as opened-by, filled as filled_at, counts_at, value_at};
+ghost use Rattle.frames.specs.Reading.{opened as opened_by, filled as filled_at, counts_at, value_at};
 
 use clocks::matrix::{Matrix, area};
 use clocks::row::Row;
@@ -24,7 +24,7 @@ pub fn bytes_for(bits: usize) -> usize
 
 // The site count of a frame of this kind.
 pub fn opened(bytes: &[u8], kind: u32) -> Result<u8, Fault>
-    ensures answer { result ≡ opened-by kind bytes.now }
+    ensures answer { result ≡ opened_by kind bytes.now }
     ensures range { IfOk result (λ n. (2 ≤ n) × (n ≤ 8)) }
     ensures some { IfOk result (λ n. 1 ≤ length bytes.now) }
 {

@@ -23,7 +23,7 @@ use Rattle.protocol.specs.Reading.{Read, read_rule}
 use Rattle.protocol.specs.Fetching.{Begun, fetch_rule}
 use Rattle.protocol.specs.Applying.{Applied, ready_update, no_update, apply_rule}
 use Rattle.protocol.specs.Replying.{take_rule}
-use Rattle.protocol.specs.Runs.{Call, write, read, fetch, apply, take_reply, Answer, no as said-no, written, was_read, begun, applied, replied, Step, StepAt, Rack, told_so, step, at, rack_after, history}
+use Rattle.protocol.specs.Runs.{Call, write, read, fetch, apply, take_reply, Answer, no as said_no, written, was_read, begun, applied, replied, Step, StepAt, Rack, told_so, step, at, rack_after, history}
 use Rattle.protocol.specs.Causality.{Writes, Reads, Fetching, local, fetched}
 use Rattle.protocol.proofs.Model as model
 use Rattle.protocol.proofs.Model.{Config, Write, Ask, Waiting, Way, Event, world, out_after, wrote, reads, asked, refused, received, queued, served, dropped}
@@ -81,7 +81,7 @@ module _ (g : Config) (e : ℕ → Event) where
   latest_ask (suc t) i a h = ask_step t (e t) refl i a h (latest_ask t i a)
 
 -- an answer that is not a refusal is that of the rule
-pub told_ok : {V A : Type 0} (f : A → List ℕ → Answer V) (res : Result A Fault) (place : List ℕ) (b : Answer V) → ((x : Fault) → b ≡ said-no x → ⊥) → b ≡ told_so f res place →
+pub told_ok : {V A : Type 0} (f : A → List ℕ → Answer V) (res : Result A Fault) (place : List ℕ) (b : Answer V) → ((x : Fault) → b ≡ said_no x → ⊥) → b ≡ told_so f res place →
     (a : A) × (res ≡ Ok a) × (b ≡ f a place)
 told_ok f (Ok a) place b n h = (a, refl, h)
 told_ok f (Err x) place b n h = absurd (n x h)

@@ -50,7 +50,7 @@ module _ (g : Config) (e : ℕ → Event) (run : Run g e) (T : ℕ) where
       ((q : Waiting) (x : Write) (a b : List Waiting) → e t ≡ served q x a b → w'.out q.ask.reader ≡ some q.ask →
       (p : ℕ) (y : Write) → e p ≡ wrote y → p < T → y.reg ≡ q.ask.reg → y.num ≤ h' q.ask.reader y.by → Stale e x p → ⊥) →
       Fetch g e T t w h → Fetch g e T (suc t) w' h'
-  keep t w w' h h' still up new-ask new-reply o = record {
+  keep t w w' h h' still up new_ask new_reply o = record {
     numbers = λ s q l hs. go_num s q l hs (dec_lt s t);
     column = λ s q l hs out k. go_col s q l hs out k (dec_lt s t);
     reply = λ s q x a b l hs out p y hp lp hr ln st. go_rep s q x a b l hs out p y hp lp hr ln st (dec_lt s t);
@@ -58,7 +58,7 @@ module _ (g : Config) (e : ℕ → Event) (run : Run g e) (T : ℕ) where
     where
       go_num : (s : ℕ) (q : Waiting) → s < suc t → e s ≡ asked q → Dec (s < t) → q.ask.num ≤ w'.fetches q.ask.reader
       go_num s q l hs (yes l') = let a = o.numbers s q l' hs in let b = up q.ask.reader in omega arith
-      go_num s q l hs (no l') = let c : s ≡ t = omega arith in (new-ask q (subst (λ s. e s ≡ asked q) c hs)).0
+      go_num s q l hs (no l') = let c : s ≡ t = omega arith in (new_ask q (subst (λ s. e s ≡ asked q) c hs)).0
 
       go_col : (s : ℕ) (q : Waiting) → s < suc t → e s ≡ asked q → w'.out q.ask.reader ≡ some q.ask → (k : ℕ) → Dec (s < t) →
           q.col k ≡ w'.sent q.ask.reader k q.ask.home
@@ -66,7 +66,7 @@ module _ (g : Config) (e : ℕ → Event) (run : Run g e) (T : ℕ) where
         | inl u ↦ o.column s q l' hs u.0 k ∙ sym (u.1 k q.ask.home)
         | inr u ↦ let a = o.numbers s q l' hs in absurd (omega arith)
       ]
-      go_col s q l hs out k (no l') = let c : s ≡ t = omega arith in (new-ask q (subst (λ s. e s ≡ asked q) c hs)).1 k
+      go_col s q l hs out k (no l') = let c : s ≡ t = omega arith in (new_ask q (subst (λ s. e s ≡ asked q) c hs)).1 k
 
       go_rep : (s : ℕ) (q : Waiting) (x : Write) (a b : List Waiting) → s < suc t → e s ≡ served q x a b → w'.out q.ask.reader ≡ some q.ask →
           (p : ℕ) (y : Write) → e p ≡ wrote y → p < T → y.reg ≡ q.ask.reg → y.num ≤ h' q.ask.reader y.by → Stale e x p → Dec (s < t) → ⊥
@@ -75,7 +75,7 @@ module _ (g : Config) (e : ℕ → Event) (run : Run g e) (T : ℕ) where
         | inr u ↦ let k = served_asked s q x a b hs in let c = o.numbers k.0 q (omega (arith, k.1)) k.2 in omega arith
       ]
       go_rep s q x a b l hs out p y hp lp hr ln st (no l') = let c : s ≡ t = omega arith in
-          new-reply q x a b (subst (λ s. e s ≡ served q x a b) c hs) out p y hp lp hr ln st
+          new_reply q x a b (subst (λ s. e s ≡ served q x a b) c hs) out p y hp lp hr ln st
 
   -- a reply made while its fetch is out is no older than what the reader has seen
   fresh_reply : (t : ℕ) → t ≤ T → Fetch g e T t (world g e t) (ghost e t).clock →

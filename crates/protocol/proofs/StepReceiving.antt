@@ -176,14 +176,14 @@ module _ {V : Type 0} (k : Kind V) (lawk : Lawful k) (p : Placed) (law : LawfulP
         let item = fetch_item (fetch_clean m) in
         let list : take (s.fetches_waiting + 1) (set s.fetches s.fetches_waiting (fetch_item (fetch_clean m))) ≡ waiting_fetches s ++ (fetch_item (fetch_clean m) ∷ []) =
         pushed_list s.fetches s.fetches_waiting item (omega (arith, room, ok.fetch_places, ok.fetches_long)) in
-        let view-is : fetch_view s.sites s.site item ≡ fetch_sent_view s.sites (fetch_clean m) =
+        let view_is : fetch_view s.sites s.site item ≡ fetch_sent_view s.sites (fetch_clean m) =
         ap (λ h. record { ask = record { reader = m.reader; home = h; reg = m.register; num = m.number }; col = row_view s.sites (fetch_clean m).column.counts }) (sym home) in
-        let asks-here : w.asks m.home ≡ map (fetch_view s.sites s.site) (waiting_fetches s) = ap w.asks home ∙ agree.asks in
+        let asks_here : w.asks m.home ≡ map (fetch_view s.sites s.site) (waiting_fetches s) = ap w.asks home ∙ agree.asks in
         record {
           may = record {
             message = (src, lt, from ∙ ap model.asked (sym clean_fetch));
             single =
-                subst (λ l. model.All (λ y. (y.ask.reader ≡ m.reader) × (y.ask.num ≡ m.number) → ⊥) l) (sym asks-here)
+                subst (λ l. model.All (λ y. (y.ask.reader ≡ m.reader) × (y.ask.num ≡ m.number) → ⊥) l) (sym asks_here)
                 (all_map_in (fetch_view s.sites s.site) (λ f. same_fetch (fetch_clean m) f ≡ false) _ (waiting_fetches s)
                 (λ f i q z.
                 let y : same_fetch (fetch_clean m) f ≡ true = rw (eq-eqb f.reader m.reader z.0, eq-eqb f.number m.number z.1) in
@@ -222,7 +222,7 @@ module _ {V : Type 0} (k : Kind V) (lawk : Lawful k) (p : Placed) (law : LawfulP
             updates = agree.updates;
             asks =
                 ap (model.set w.asks m.home _) (sym home) ∙ set_same w.asks m.home _
-                ∙ ap₂ (λ l x. l ++ (x ∷ [])) asks-here (sym view-is)
+                ∙ ap₂ (λ l x. l ++ (x ∷ [])) asks_here (sym view_is)
                 ∙ sym (ap (map (fetch_view s.sites s.site)) list ∙ map_append (fetch_view s.sites s.site) (waiting_fetches s) (item ∷ []));
           };
         }

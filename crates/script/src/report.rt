@@ -1,7 +1,7 @@
 // The report of a script: a line for each line, its number from 1 and what became of it.
 ghost use Rattle.std.specs.Prelude.{◌≡◌, ◌≤◌, length, IfOk, string_bytes};
 ghost use Rattle.script.specs.Lines.{lines};
-ghost use Rattle.script.specs.Reports.{said as said_of, numbered as Numbered-of, report as report-of};
+ghost use Rattle.script.specs.Reports.{said as said_of, numbered as numbered_of, report as report_of};
 
 use crate::lines::cut;
 use std::alloc::{AllocError, Global};
@@ -19,7 +19,7 @@ fn answer(heap: Global, number: u32, _line: &[u8]) -> Result<String, AllocError>
 // The report of a text's lines, the first of which has number 1.
 fn numbered(heap: Global, text: &[u8]) -> Result<String, AllocError>
     requires { length text.now ≤ 4096 }
-    ensures { IfOk result (λ s. string_bytes s ≡ Numbered-of 1 (lines text.now)) }
+    ensures { IfOk result (λ s. string_bytes s ≡ numbered_of 1 (lines text.now)) }
 {
     let mut out = String::new(heap);
     let mut number = 1u32;
@@ -36,7 +36,7 @@ fn numbered(heap: Global, text: &[u8]) -> Result<String, AllocError>
 
 // The report of a script; want of memory is the only failure.
 pub fn report(heap: Global, text: &[u8]) -> Result<String, AllocError>
-    ensures { IfOk result (λ s. string_bytes s ≡ report-of text.now) }
+    ensures { IfOk result (λ s. string_bytes s ≡ report_of text.now) }
 {
     if text.len() > LONGEST {
         return String::from_str(heap, "?\n");

@@ -1,6 +1,6 @@
 // Values as the plain bits that lie in a table.
 ghost use Rattle.std.specs.Prelude.{◌≡◌};
-ghost use Rattle.protocol.specs.Words.{plain_bytes, sound as sound-bytes};
+ghost use Rattle.protocol.specs.Words.{plain_bytes, sound as sound_bytes};
 
 use values::kind::{Bits, ValueKind};
 
@@ -13,7 +13,7 @@ pub fn plain<V: ValueKind>(value: &V) -> Bits
 
 // Are these exactly the bits that some value writes?
 pub fn sound<V: ValueKind + Drop>(bits: &Bits) -> bool
-    ensures { result ≡ sound-bytes kind bits.now.bytes }
+    ensures { result ≡ sound_bytes kind bits.now.bytes }
 {
     match V::read(bits) {
         Ok(value) => plain(&value).bytes == bits.bytes,

@@ -1,7 +1,7 @@
 // Waiting updates.
 ghost use Rattle.std.specs.Prelude.{◌≡◌, ◌<◌, ◌≤◌, length, take};
 ghost use Rattle.protocol.specs.Words.{update_ok, every_item, no_item};
-ghost use Rattle.tables.specs.Judging.{numbered, alike as alike-to};
+ghost use Rattle.tables.specs.Judging.{numbered, alike as alike_to};
 
 use crate::bits::sound;
 use crate::numbers::in_range;
@@ -53,7 +53,7 @@ pub fn alike(update: &WaitingUpdate, n: u8, site: u8, sender: u8, count_here: u3
     requires n_bound { n ≤ 8 }
     requires site_lt_n { site < n }
     requires sender_lt_n { sender < n }
-    ensures { result ≡ alike-to n site sender count_here update.now }
+    ensures { result ≡ alike_to n site sender count_here update.now }
 {
     update.sender == sender && update.matrix.entry(n, update.sender, site) == count_here
 }
@@ -71,7 +71,7 @@ pub fn none_alike(
     requires site_lt_n { site < n }
     requires sender_lt_n { sender < n }
     requires count_in_bounds { count ≤ length updates.now }
-    ensures { result ≡ no_item (alike-to n site sender count_here) (take count updates.now) }
+    ensures { result ≡ no_item (alike_to n site sender count_here) (take count updates.now) }
 {
     for i in 0..count {
         if alike(&updates[i], n, site, sender, count_here) {

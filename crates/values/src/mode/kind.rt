@@ -1,6 +1,6 @@
 // Modes as a value kind: 18 bits, a tag of 2 and an argument of 16.
 ghost use Rattle.std.specs.Prelude.{◌≡◌};
-ghost use Rattle.values.specs.Modes.{mode_kind, mode_of, tag as tag_of, argument as argument-of};
+ghost use Rattle.values.specs.Modes.{mode_kind, mode_of, tag as tag_of, argument as argument_of};
 ghost use Rattle.values.specs.ModeLaws.{mode_lawful};
 
 use crate::fault::Fault;
@@ -19,7 +19,7 @@ fn tag(mode: &Mode) -> u32
 }
 
 fn argument(mode: &Mode) -> u32
-    ensures { result ≡ argument-of mode.now }
+    ensures { result ≡ argument_of mode.now }
 {
     match mode {
         Mode::Off => 0,

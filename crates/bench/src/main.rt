@@ -1,4 +1,6 @@
 // The bench: reads a script from standard input and prints its report.
+#![tactic(auto)]
+
 use std::io;
 use std::io::Read;
 

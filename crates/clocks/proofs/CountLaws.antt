@@ -1,6 +1,6 @@
 -- Tests of every count below a number, and lists of which the first places are anew: what holds at each place, by
 -- induction on how many places there are. A loop that writes place after place comes to the same list.
-use Rattle.std.proofs.Common.{◌≡◌, ℕ, zero, suc, ◌+◌, ◌-◌, ◌<◌, ◌≤◌, Bool, true, false, leb, ◌≢◌, List, map, length, get_or, drop, set, replicate, sym, refl, ap, ◌∙◌, subst, ⊎_elim, zero-add, add-one, arith}
+use Rattle.std.proofs.Common.{◌≡◌, ℕ, zero, suc, ◌+◌, ◌-◌, ◌<◌, ◌≤◌, Bool, true, false, leb, List, map, length, get_or, drop, set, replicate, sym, refl, ap, ◌∙◌, subst, ⊎_elim, zero-add, add-one, arith}
 use Rattle.std.specs.List.{range_with_len}
 use Rattle.std.proofs.lemmas.List.FromFn.{length-map-range_with_len, get_or-map-range_with_len}
 use Rattle.std.proofs.lemmas.List.{length-set, get_or-set_same, get_or-set_other, set-get_or, set_past, get_or_append_left, get_or-append_right, get_or-drop, length-append, length-drop, ext_get_or}

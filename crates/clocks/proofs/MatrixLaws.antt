@@ -1,6 +1,6 @@
 -- What the operations on matrices give, entry by entry. Rows stand one after the other, so a place tells its row and its
 -- column. What is said of entries holds of a list of any length; only the lengths ask that it has all n * n counts.
-use Rattle.std.proofs.Common.{◌≡◌, ℕ, ◌+◌, ◌-◌, ◌*◌, ◌/◌, ◌%◌, ◌<◌, ◌≤◌, max, true, false, cond, not, ◌&&◌, ◌||◌, eqb, ltb, List, length, get_or, set, replicate, sym, ap, ◌∙◌, subst, ⊎_elim, arith}
+use Rattle.std.proofs.Common.{◌≡◌, ℕ, ◌+◌, ◌*◌, ◌/◌, ◌%◌, ◌<◌, ◌≤◌, max, true, false, cond, not, ◌&&◌, ◌||◌, eqb, ltb, List, length, get_or, set, replicate, sym, ap, ◌∙◌, subst, ⊎_elim, arith}
 use native.Mathlib.Nat.{max-le}
 use Rattle.std.proofs.lemmas.Nat.{mul-add-lt, mul-le, div-mul-add, mod-mul-add, div_below, div-add-mod', mod_below}
 use Rattle.std.proofs.lemmas.Bool.{cases_lt, cases_Bool, cases_order, eq-eqb, ne_eqb, lt-ltb, le-ltb, ltb-true, or_from, or_left, or_right, or_cases, not_from_true, not_from_false, both_ways, not-true, and_parts, eqb-true}

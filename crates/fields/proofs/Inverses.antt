@@ -1,8 +1,7 @@
 -- Reading and putting are inverse to each other, and neither touches another field: a splice is cut into what lies
 -- before the field, the field and what lies behind, and each part is compared.
-use Rattle.std.proofs.Common.{◌≡◌, ℕ, zero, suc, ◌+◌, ◌-◌, ◌*◌, ◌^◌, ◌<◌, ◌≤◌, Bool, List, [], ◌∷◌, ◌++◌, length, take, drop, sym, refl, ap, ◌∙◌, ap₂, append_assoc, lt_of_lt_of_le, arith, length-append, length-drop, length-take, pow_mono}
+use Rattle.std.proofs.Common.{◌≡◌, ℕ, ◌+◌, ◌-◌, ◌*◌, ◌^◌, ◌<◌, ◌≤◌, Bool, List, ◌++◌, length, take, drop, sym, refl, ap, ◌∙◌, lt_of_lt_of_le, arith, length-drop, length-take, pow_mono}
 use Rattle.std.proofs.lemmas.List.{drop_at, take_at, take-append-le, drop-append-le, drop-drop, take-append-drop, take-take, drop-take}
-use Rattle.std.specs.List.{AllByRecursion as All}
 use Rattle.fields.specs.Bits.{bits, num}
 use Rattle.fields.specs.Fields.{run, field, splice, row, numbers, ReadsWhatWasPut, PutsWhatWasRead, KeepsOthers, ReadsTheRowPut, PutsTheRowRead}
 use Rattle.fields.proofs.BitLaws.{bits_length, bits_num, num_bits, num_lt}

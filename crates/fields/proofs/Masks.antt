@@ -1,5 +1,5 @@
 -- What shifts and masks of a byte make, as quotients, remainders and sums.
-use Rattle.std.proofs.Common.{◌≡◌, ℕ, zero, suc, ◌+◌, ◌-◌, ◌*◌, ◌/◌, ◌%◌, ◌^◌, ◌<◌, ◌≤◌, sym, refl, ap, ◌∙◌, le_trans, lt_of_lt_of_le, mul_comm, arith, pow_mono}
+use Rattle.std.proofs.Common.{◌≡◌, ℕ, ◌+◌, ◌-◌, ◌*◌, ◌/◌, ◌%◌, ◌^◌, ◌<◌, ◌≤◌, ap, ◌∙◌, lt_of_lt_of_le, mul_comm, arith, pow_mono}
 use lib.Bits.{bit_and, bit_or}
 use Rattle.std.proofs.lemmas.Nat.{and_mask, one_shl, shl_whole, or_shifted, or_lt, shr_split, shr_le, mul-add-lt, mod_below, pow_pos, pow-add}
 

@@ -1,6 +1,6 @@
 -- Laws of row and numbers: a row grows by one number at its end, and the two are inverse to each other.
 -- By induction on the row.
-use Rattle.std.proofs.Common.{◌≡◌, ℕ, zero, suc, ◌+◌, ◌-◌, ◌*◌, ◌^◌, ◌<◌, ◌≤◌, Bool, List, [], ◌∷◌, ◌++◌, length, get_or, take, drop, set, sym, refl, ap, ◌∙◌, ap₂, append_assoc, mod-eq_of_lt, suc-add, mul-le-mul_left, mul-zero, mul-suc, arith, length-append, length-drop, length-take, take-add}
+use Rattle.std.proofs.Common.{◌≡◌, ℕ, zero, suc, ◌+◌, ◌*◌, ◌^◌, ◌<◌, ◌≤◌, Bool, List, [], ◌∷◌, ◌++◌, length, get_or, take, drop, set, sym, refl, ap, ◌∙◌, ap₂, append_assoc, mod-eq_of_lt, suc-add, mul-le-mul_left, mul-zero, mul-suc, arith, length-append, length-drop, length-take, take-add}
 use Rattle.std.proofs.lemmas.List.{take_at, drop_at, drop-drop, take_more, take_more_set, append-nil}
 use Rattle.std.specs.List.{AllByRecursion as All}
 use Rattle.fields.specs.Bits.{bits, num}

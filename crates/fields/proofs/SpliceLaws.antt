@@ -1,6 +1,6 @@
 -- Laws of splice: what lies before stays before, two parts laid one after the other are their join laid at once.
 -- By induction on what lies before the part.
-use Rattle.std.proofs.Common.{◌≡◌, ℕ, zero, suc, ◌+◌, ◌≤◌, Bool, List, [], ◌∷◌, ◌++◌, length, take, drop, sym, refl, ap, ◌∙◌, append_assoc, add-zero, suc-add, zero-add, arith, length-append, length-drop, length-take}
+use Rattle.std.proofs.Common.{◌≡◌, ℕ, zero, suc, ◌+◌, ◌≤◌, Bool, List, [], ◌∷◌, ◌++◌, length, take, drop, ap, ◌∙◌, append_assoc, add-zero, suc-add, zero-add, arith, length-append, length-drop, length-take}
 use Rattle.std.proofs.lemmas.List.{drop_at, take-append-le, drop-append-le, drop-drop, take-append-drop}
 use Rattle.fields.specs.Fields.{splice}
 

@@ -1,6 +1,6 @@
 -- The laws of frames, over any list of fields: what is laid is read, and bits that carry fields are those laid.
 -- By induction on the fields; counts and value follow by the laws of rows and runs.
-use Rattle.std.proofs.Common.{◌≡◌, ℕ, ◌+◌, ◌-◌, ◌*◌, ◌/◌, ◌^◌, ◌<◌, ◌≤◌, Bool, false, ltb, List, [], ◌∷◌, ◌++◌, length, take, drop, replicate, sym, refl, ap, ◌∙◌, subst, ap₂, append_assoc, add-zero, add_assoc, mod-eq_of_lt, zero-add, arith, length-append, length-drop, length-take, take-add, le-ltb}
+use Rattle.std.proofs.Common.{◌≡◌, ℕ, ◌+◌, ◌-◌, ◌*◌, ◌^◌, ◌<◌, ◌≤◌, Bool, false, ltb, List, [], ◌∷◌, ◌++◌, length, take, drop, replicate, sym, refl, ap, ◌∙◌, subst, ap₂, append_assoc, mod-eq_of_lt, arith, length-append, length-drop, length-take, take-add, le-ltb}
 use Rattle.std.proofs.lemmas.List.{drop_at, take_at, take_all, drop-drop, take-append-drop, append-nil, length-replicate}
 use Rattle.std.specs.List.{AllByRecursion as All}
 use Rattle.fields.specs.Bits.{bits, num, bits_of, bytes_by}

@@ -1,9 +1,8 @@
 -- What the shared parts of frames read: counts into the first places of a table of zeros, a value by its kind.
-use Rattle.std.proofs.Common.{◌≡◌, ℕ, ◌+◌, ◌-◌, ◌≤◌, Bool, false, List, ◌++◌, length, take, drop, replicate, sym, ap, ◌∙◌, ap₂, arith, length-take}
+use Rattle.std.proofs.Common.{◌≡◌, ℕ, ◌-◌, ◌≤◌, Bool, false, List, ◌++◌, length, take, drop, replicate, ap, ◌∙◌, ap₂, arith, length-take}
 use borrow.Rule.Slice.PartMut.{post_of}
 use Rattle.std.proofs.lemmas.List.{drop-replicate, length-replicate, take_at}
-use Rattle.fields.specs.Bits.{bits_of}
-use Rattle.fields.specs.Fields.{splice, run, numbers}
+use Rattle.fields.specs.Fields.{splice, numbers}
 use Rattle.values.specs.Plains.{blank, over_blank}
 
 pub part_read : (row : List ℕ) (bs : List Bool) (size m n : ℕ) → m ≡ n → n ≤ size → row ≡ numbers 24 (length (take (m - 0) (replicate {A = ℕ} size 0))) bs

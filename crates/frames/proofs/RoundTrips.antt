@@ -1,6 +1,6 @@
 -- Reading is the exact inverse of writing, for each of the three frames: a frame carries its fields (LayoutLaws), so each
 -- check passes; and what passes each check carries the fields of its message.
-use Rattle.std.proofs.Common.{◌≡◌, ℕ, ◌+◌, ◌-◌, ◌*◌, ◌^◌, ◌<◌, ◌≤◌, Bool, true, false, cond, ◌&&◌, eqb, ltb, leb, List, [], ◌∷◌, ◌++◌, length, take, drop, replicate, Some, None, Ok, Err, Option, Result, sym, refl, ap, ◌∙◌, subst, ap₂, lt_of_lt_of_le, arith, length-drop, length-take, ltb-true, le-ltb, lt-ltb, eq-eqb, ne_eqb, eqb-true, le-leb, leb-true}
+use Rattle.std.proofs.Common.{◌≡◌, ℕ, ◌+◌, ◌-◌, ◌*◌, ◌^◌, ◌<◌, ◌≤◌, Bool, true, false, cond, ◌&&◌, eqb, ltb, leb, List, [], ◌++◌, length, take, drop, replicate, Some, None, Ok, Err, Option, Result, sym, refl, ap, ◌∙◌, subst, ap₂, arith, length-drop, length-take, ltb-true, le-ltb, lt-ltb, eq-eqb, ne_eqb, eqb-true, le-leb, leb-true}
 use borrow.Author.Tests.{eqb-false}
 use Rattle.std.proofs.lemmas.List.{take_at}
 use Rattle.std.specs.List.{AllByRecursion as All}
@@ -10,11 +10,10 @@ use Rattle.fields.proofs.ByteLaws.{bits_of_length}
 use Rattle.fields.proofs.Inverses.{field_lt}
 use Rattle.fields.proofs.RowLaws.{numbers_length, numbers_small}
 use Rattle.values.specs.Kinds.{Kind, Lawful}
-use Rattle.values.specs.Refusals.{of_frame}
 use Rattle.values.specs.declared.fault.Fault.{Fault}
-use Rattle.frames.specs.Layouts.{Fields, span, Fit, bytes_for, framed, Carries}
+use Rattle.frames.specs.Layouts.{Fit, bytes_for, framed}
 use Rattle.frames.specs.Messages.{update_fields, update_bits, update_frame, update_clean, UpdateInRange, fetch_fields, fetch_bits, fetch_frame, fetch_clean, FetchInRange, reply_fields, reply_bits, reply_frame, reply_clean, ReplyInRange, Label, Counts, written, writer, write_number, carried, trimmed}
-use Rattle.frames.specs.Reading.{check, onward, from, site_count, opened, filled, counts_at, value_at, update_of, update_tail, update_rest, update_read, fetch_of, fetch_rest, fetch_read, label_read, ends_read, copy_read, reply_of, reply_rest, reply_read, incoming_read, ReadsBack, AcceptsOnlyFrames}
+use Rattle.frames.specs.Reading.{check, onward, from, site_count, opened, filled, counts_at, value_at, update_of, update_rest, update_read, fetch_of, fetch_rest, fetch_read, label_read, ends_read, copy_read, reply_of, reply_rest, reply_read, incoming_read, ReadsBack, AcceptsOnlyFrames}
 use Rattle.frames.specs.declared.incoming.Incoming.{Incoming}
 use Rattle.frames.specs.declared.incoming.Incoming.TheVariants.{OfUpdate, OfFetch}
 use Rattle.frames.specs.declared.message.Update.{Update}

@@ -11,7 +11,7 @@
 --   framed fs cs vs the bytes of the frame of fields, counts of 24 bits and a value's bits
 --
 -- Assumes nothing.
-use Rattle.std.specs.Prelude.{◌≡◌, ℕ, ◌+◌, ◌-◌, ◌*◌, ◌/◌, ◌^◌, ◌<◌, ◌≤◌, Bool, false, List, [], ◌∷◌, ◌++◌, length, drop, replicate}
+use Rattle.std.specs.Prelude.{◌≡◌, ℕ, ◌+◌, ◌-◌, ◌*◌, ◌/◌, ◌^◌, ◌<◌, Bool, false, List, [], ◌∷◌, ◌++◌, length, drop, replicate}
 use Rattle.std.specs.List.{AllByRecursion as All}
 use Rattle.fields.specs.Bits.{bits, bits_of, bytes_by}
 use Rattle.fields.specs.Fields.{run, field, row, numbers}

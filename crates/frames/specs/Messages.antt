@@ -9,7 +9,7 @@
 --   UpdateInRange m, ...                            a message whose numbers are in their ranges
 --
 -- Assumes nothing.
-use Rattle.std.specs.Prelude.{◌≡◌, ℕ, ◌+◌, ◌-◌, ◌*◌, ◌^◌, ◌<◌, ◌≤◌, List, [], ◌∷◌, ◌++◌, length, take, replicate, Some, None, Option}
+use Rattle.std.specs.Prelude.{ℕ, ◌+◌, ◌-◌, ◌*◌, ◌^◌, ◌<◌, ◌≤◌, List, [], ◌∷◌, ◌++◌, length, take, replicate, Some, None, Option}
 use Rattle.std.specs.List.{AllByRecursion as All}
 use Rattle.values.specs.Kinds.{Kind}
 use Rattle.frames.specs.Layouts.{Fields, framed}

@@ -3,7 +3,7 @@
 --   minus_two   site 0 of 2 writes -2 to register 5, which site 1 holds: its first write, and all that it knows
 --
 -- Assumes nothing.
-use Rattle.std.specs.Prelude.{◌≡◌, ℕ, List, [], ◌∷◌}
+use Rattle.std.specs.Prelude.{◌≡◌, [], ◌∷◌}
 use Rattle.values.specs.Blocks.{block_kind}
 use Rattle.values.specs.Coefficients.{coefficient_kind, coefficient_of}
 use Rattle.values.specs.declared.coefficient.Coefficient.{Coefficient}

@@ -1,4 +1,6 @@
 // Placements: which sites hold which registers, and which site a reader asks that does not hold one.
+#![tactic(auto)]
+
 ghost use Rattle.std.specs.Prelude.{◌≡◌, ℕ, ◌<◌, ◌≤◌, Bool, true, false};
 ghost use Rattle.clocks.specs.Sites.{told};
 

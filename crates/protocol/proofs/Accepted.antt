@@ -4,15 +4,12 @@
 --   read_here     a local read answers the copy's label, and the value of its bits; a label has a number of at least 1
 --   reply_taken   a fetched read answers what the reply's message has
 --   took          an applying answers the first update that is ready; apply_ends has its other ends
-use Rattle.std.proofs.Common.{◌≡◌, ℕ, ◌+◌, ◌-◌, ◌*◌, ◌≤◌, Bool, true, false, cond, not, ◌&&◌, ◌||◌, eqb, ltb, leb, ◌⊎◌, List, [], ◌∷◌, ◌++◌, length, get_or, take, replicate, Some, None, Ok, Err, Option, Result, sym, refl, ap, ◌∙◌, subst, inl, inr, arith, length-append}
-use lib.ListN.{length-replicate}
-use lib.Seq.{take-append_seam}
-use Rattle.fields.specs.Bits.{bits, bits_of}
+use Rattle.std.proofs.Common.{◌≡◌, ℕ, ◌+◌, ◌*◌, ◌≤◌, Bool, true, false, cond, not, ◌&&◌, ◌||◌, eqb, ltb, leb, ◌⊎◌, List, [], ◌∷◌, length, get_or, Some, None, Ok, Err, Option, Result, sym, refl, ap, ◌∙◌, subst, inl, inr, arith}
+use Rattle.fields.specs.Bits.{bits_of}
 use Rattle.fields.specs.Fields.{field}
-use Rattle.fields.proofs.ByteLaws.{bits_back}
 use Rattle.clocks.specs.Counts.{limit, within}
 use Rattle.clocks.specs.Matrices.{column}
-use Rattle.values.specs.Kinds.{Kind, Lawful, plain, taken}
+use Rattle.values.specs.Kinds.{Kind, Lawful, taken}
 use Rattle.values.specs.Refusals.{of_site}
 use Rattle.values.specs.declared.fault.Fault.{Fault}
 use Rattle.values.specs.declared.fault.Refusal.{Refusal}

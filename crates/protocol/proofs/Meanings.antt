@@ -11,7 +11,7 @@
 use Rattle.std.proofs.Common.{◌≡◌, ℕ, zero, suc, ◌+◌, ◌<◌, List, map, get_or, take, drop, Ok, Err, Option, Result, sym, refl, ap, ◌∙◌, subst, arith}
 use mathlib.Core.Option.{Option as Maybe, none, some}
 use native.Mathlib.Decide.{dec_lt}
-use Rattle.fields.specs.Bits.{num, bits}
+use Rattle.fields.specs.Bits.{num}
 use Rattle.values.specs.Kinds.{Kind, Lawful}
 use Rattle.values.specs.declared.fault.Fault.{Fault}
 use Rattle.frames.specs.Reading.{reply_read}
@@ -23,7 +23,7 @@ use Rattle.protocol.specs.Reading.{Read, read_rule}
 use Rattle.protocol.specs.Fetching.{Begun, fetch_rule}
 use Rattle.protocol.specs.Applying.{Applied, ready_update, no_update, apply_rule}
 use Rattle.protocol.specs.Replying.{take_rule}
-use Rattle.protocol.specs.Runs.{Call, write, read, fetch, apply, take_reply, Answer, no as said_no, written, was_read, begun, applied, replied, Step, StepAt, Rack, told_so, step, at, rack_after, history}
+use Rattle.protocol.specs.Runs.{Call, read, fetch, apply, take_reply, Answer, no as said_no, was_read, begun, applied, replied, Step, StepAt, Rack, told_so, at, rack_after, history}
 use Rattle.protocol.specs.Causality.{Writes, Reads, Fetching, local, fetched}
 use Rattle.protocol.proofs.Model as model
 use Rattle.protocol.proofs.Model.{Config, Write, Ask, Waiting, Way, Event, world, out_after, wrote, reads, asked, refused, received, queued, served, dropped}

@@ -11,7 +11,7 @@ use Rattle.values.specs.Kinds.{Kind, Lawful}
 use Rattle.protocol.specs.States.{Placed, LawfulPlaced}
 use Rattle.protocol.specs.Runs.{Call, Step, Rack, history}
 use Rattle.protocol.specs.Causality.{Writes, Reads, Op, writing, reading, Before, same_site, answered, chain, Applies, by_applying, by_writing, Waits, PastApplied}
-use Rattle.protocol.proofs.Model.{Config, Write, Event, wrote, reads}
+use Rattle.protocol.proofs.Model.{Config, Write, Event, wrote}
 use Rattle.protocol.proofs.ModelCausal as causal
 use Rattle.protocol.proofs.ModelClocks.{may_write}
 use Rattle.protocol.proofs.ModelCore.{same_write, applies_known}

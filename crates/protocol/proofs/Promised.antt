@@ -20,7 +20,7 @@ use Rattle.protocol.specs.States.{Placed, LawfulPlaced, State, Session, need}
 use Rattle.protocol.specs.Words.{waiting_updates}
 use Rattle.protocol.specs.Applying.{Applied, ready_update, no_update, after_apply, applied_at, apply_rule}
 use Rattle.protocol.specs.Runs.{Call, Answer, Step, StepAt, Rack, apply, no, applied, at, told_so, step, site_of, rack_after, history}
-use Rattle.protocol.specs.Causality.{Writes, local, Applies, Waits, PastApplied}
+use Rattle.protocol.specs.Causality.{Writes, local, Waits, PastApplied}
 use Rattle.protocol.specs.Promises.{LabelsNameWrites, OnlyWhatIsBound, Once, InCausalOrder, LastApplied, NoneApplied, LocalReadsAnswerTheLast, AppliedInCausalOrder, AnswersAWrite, NeverOvertaken, NoStaleReads, Due, TakesTheOldest, NoneIsDue, AppliesOrNone, ItemOf, ReadyWhenDue, Promised}
 use Rattle.protocol.proofs.Model as model
 use Rattle.protocol.proofs.Model.{Config, Write, Event, wrote}

@@ -16,7 +16,7 @@ use Rattle.protocol.specs.Applying.{apply_rule}
 use Rattle.protocol.specs.Reading.{read_rule}
 use Rattle.protocol.specs.Receiving.{receive_rule}
 use Rattle.protocol.specs.Replying.{take_rule, abandon_rule}
-use Rattle.protocol.specs.Runs.{Call, Answer, Rack, write, read, fetch, receive, apply, serve, take_reply, abandon, written, was_read, received, applied, replied, abandoned, told_so, no_site, NewlyOpened, NewRack, at, step, site_of, frame_of}
+use Rattle.protocol.specs.Runs.{Call, Answer, Rack, write, read, fetch, receive, apply, serve, take_reply, abandon, was_read, received, applied, replied, abandoned, told_so, no_site, NewlyOpened, NewRack, at, step, site_of, frame_of}
 use Rattle.protocol.proofs.Model as model
 use Rattle.protocol.proofs.Views.{config, view, event_of, copy_view}
 use Rattle.protocol.proofs.ViewLaws.{view_in, view_row_out, view_column_out}

@@ -1,22 +1,17 @@
 -- What readiness and the two gates mean: an item's need, as the rules compute it from a matrix, is the model's need; so the test holds exactly if
 -- nothing needed is missing.
-use Rattle.std.proofs.Common.{◌≡◌, ℕ, zero, suc, ◌-◌, ◌<◌, ◌≤◌, Bool, true, false, cond, eqb, ◌⊎◌, List, [], ◌∷◌, map, length, get_or, take, Some, None, sym, refl, ap, ◌∙◌, subst, inl, inr, arith, length-take, lt-ltb, eq-eqb, ne_eqb}
+use Rattle.std.proofs.Common.{◌≡◌, ℕ, ◌-◌, ◌<◌, ◌≤◌, Bool, true, false, cond, eqb, List, get_or, sym, ap, ◌∙◌, subst, arith, lt-ltb}
 use Rattle.clocks.proofs.MatrixLaws.{column_count, column_length}
 use Rattle.clocks.proofs.RowLaws.{less_one_same, less_one_other, nowhere_below_at, nowhere_below_from}
 use Rattle.clocks.specs.Matrices.{column, entry}
 use Rattle.clocks.specs.Rows.{less_one, nowhere_below}
-use Rattle.protocol.proofs.Model.{Config, need, In}
+use Rattle.protocol.proofs.Model.{Config, need}
 use Rattle.protocol.proofs.ModelBasics.{Same, same, other, same?}
 use Rattle.protocol.proofs.ViewLaws.{view_in}
 use Rattle.protocol.proofs.Views.{view, row_view, update_view}
-use Rattle.std.proofs.lemmas.List.{get_or-take}
 use Rattle.values.specs.Kinds.{Kind}
-use Rattle.waiting.proofs.QueueLaws.{first_within}
 use Rattle.waiting.specs.Needs.{update_need}
-use Rattle.waiting.specs.Queues.{first_where}
 use Rattle.waiting.specs.declared.items.WaitingUpdate.{WaitingUpdate}
-use mathlib.Core.List.{Memᴰ}
-use native.Mathlib.Decide.{ℕ_discrete}
 
 -- the need of a waiting update
 need_at : {V : Type 0} (k : Kind V) (g : Config) (n : ℕ) (u : WaitingUpdate) (i l : ℕ) → n ≤ 8 → i < n → l < n → get_or (update_need u n i) l 0 ≡ need g (update_view k n u) i l

@@ -1,10 +1,9 @@
 -- Applying and serving are steps of the model: the oldest ready item is taken out of the list, the rest keeps its order.
-use Rattle.std.proofs.Common.{◌≡◌, ℕ, suc, ◌+◌, ◌-◌, ◌<◌, ◌≤◌, true, false, cond, ◌&&◌, eqb, ltb, leb, ◌⊎◌, List, [], ◌∷◌, ◌++◌, map, length, get_or, take, drop, set, Some, None, Option, sym, refl, ap, ◌∙◌, subst, inl, inr, zero-add, arith}
+use Rattle.std.proofs.Common.{◌≡◌, ℕ, suc, ◌+◌, ◌-◌, ◌<◌, ◌≤◌, true, false, ◌&&◌, ltb, leb, ◌⊎◌, List, [], ◌∷◌, ◌++◌, map, length, get_or, take, drop, Some, None, Option, sym, refl, ap, ◌∙◌, subst, inl, inr, zero-add, arith}
 use Rattle.std.proofs.lemmas.List.{length-set, length-take, get_or-take}
 use Rattle.clocks.specs.Counts.{limit}
 use Rattle.values.specs.Kinds.{Kind}
 use Rattle.values.specs.declared.fault.Refusal.TheVariants.{OtherTables, CountAtLimit, NoRoom}
-use Rattle.waiting.specs.Needs.{update_need}
 use Rattle.waiting.specs.Queues.{first_where, closed_up}
 use Rattle.waiting.specs.declared.items.Replica.{Replica}
 use Rattle.waiting.specs.declared.items.WaitingFetch.{WaitingFetch}
@@ -18,7 +17,7 @@ use Rattle.protocol.specs.Applying.{ready_update, no_update, after_apply, apply_
 use Rattle.protocol.specs.Serving.{ready_fetch, no_fetch, reply_size, serve_first, serve_rule}
 use Rattle.protocol.proofs.Model as model
 use Rattle.protocol.proofs.ModelBasics.{set_same, set_other}
-use Rattle.protocol.proofs.Views.{config, view, row_view, copy_view, update_view, fetch_view, applied_event, served_event}
+use Rattle.protocol.proofs.Views.{config, row_view, copy_view, update_view, fetch_view, applied_event, served_event}
 use Rattle.protocol.proofs.Agreement.{GoodCopy, GoodUpdate, GoodFetch, Sound, Agrees, by_apply, by_serve}
 use Rattle.protocol.proofs.Lists.{in_take, in_drop, in_either, around, in_around, found_within, found_passes, found_first, all_map_in, map_append}
 use Rattle.protocol.proofs.Readiness.{ready_at, not_ready, row_in, ready_there, unready_there}

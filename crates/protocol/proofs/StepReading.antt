@@ -1,5 +1,5 @@
 -- Local reading, beginning a fetch and abandoning are steps of the model.
-use Rattle.std.proofs.Common.{◌≡◌, ℕ, ◌+◌, ◌<◌, ◌≤◌, true, false, not, ◌&&◌, ltb, leb, List, [], length, set, Some, None, Option, sym, refl, ap, ◌∙◌, subst, ap₂, arith, ltb-true}
+use Rattle.std.proofs.Common.{◌≡◌, ℕ, ◌+◌, ◌<◌, ◌≤◌, true, false, not, ◌&&◌, ltb, leb, List, [], length, Some, None, Option, sym, refl, ap, ◌∙◌, subst, ap₂, arith, ltb-true}
 use Rattle.clocks.specs.Counts.{limit}
 use Rattle.clocks.specs.Matrices.{merged}
 use Rattle.clocks.proofs.MatrixLaws.{merged_length, merged_within, area_le}

@@ -1,6 +1,6 @@
 -- Blocks keep the law of a value kind: two's complement of 16 bits is inverse both ways, and so is a row of eight.
-use Rattle.std.specs.Prelude.{◌≡◌, ℕ, zero, suc, ◌+◌, ◌*◌, ◌^◌, ◌<◌, ◌≤◌, Bool, false, List, [], ◌∷◌, ◌++◌, length, take, replicate, Ok, Err, slice_index, refl}
-use Rattle.std.proofs.Common.{sym, ap, ◌∙◌, arith, of_z, to_z, SFits}
+use Rattle.std.specs.Prelude.{◌≡◌, ℕ, ◌*◌, ◌^◌, ◌<◌, ◌≤◌, Bool, false, List, [], ◌∷◌, ◌++◌, length, take, replicate, Ok, slice_index}
+use Rattle.std.proofs.Common.{sym, ap, ◌∙◌, arith, of_z, to_z}
 use mathlib.Core.HLevel.{is_prop→PathP}
 use Rattle.std.proofs.Math.Bridge.{le_prop}
 use Rattle.std.specs.Int.Signed.{mag}
@@ -9,11 +9,11 @@ use Rattle.std.proofs.lemmas.List.{append-nil, take_all}
 use Rattle.std.proofs.lemmas.Int.{ints, to_z-of_z, of_z-to_z}
 use Rattle.std.specs.List.{AllByRecursion as All}
 use Rattle.fields.specs.Bits.{bits, num}
-use Rattle.fields.specs.Fields.{run, field, splice, row, numbers}
+use Rattle.fields.specs.Fields.{field, splice, row, numbers}
 use Rattle.fields.proofs.Inverses.{run_take}
 use Rattle.fields.proofs.RowLaws.{row_length, row_push, row_numbers, numbers_row, numbers_at, numbers_small}
 use Rattle.fields.proofs.SpliceLaws.{splice_none, splice_next}
-use Rattle.values.specs.Kinds.{Kind, Lawful}
+use Rattle.values.specs.Kinds.{Lawful}
 use Rattle.values.specs.Blocks.{samples, block_of, block_kind}
 use Rattle.values.specs.declared.block.Block.{Block}
 use Rattle.values.specs.Plains.{blank, blank_length, over_blank}

@@ -1,6 +1,6 @@
 -- Coefficients keep the law of a value kind: two's complement of 32 bits is inverse both ways.
-use Rattle.std.specs.Prelude.{◌≡◌, ℕ, ◌^◌, ◌<◌, Ok, Err, Result}
-use Rattle.std.proofs.Common.{sym, ap, ap₂, ◌∙◌, mod-eq_of_lt, arith, of_z, to_z}
+use Rattle.std.specs.Prelude.{◌≡◌, ℕ, ◌^◌, ◌<◌, Ok}
+use Rattle.std.proofs.Common.{sym, ap, ap₂, ◌∙◌, mod-eq_of_lt, arith, of_z}
 use mathlib.Core.HLevel.{is_prop→PathP}
 use Rattle.std.proofs.Math.Bridge.{le_prop}
 use Rattle.std.specs.Int.Signed.{mag}
@@ -8,7 +8,7 @@ use Rattle.std.specs.Int.{w32}
 use Rattle.std.proofs.lemmas.Int.{ints, to_z-of_z, of_z-to_z}
 use Rattle.fields.specs.Bits.{bits, num}
 use Rattle.fields.proofs.BitLaws.{bits_length, num_bits, bits_num, num_lt}
-use Rattle.values.specs.Kinds.{Kind, Lawful}
+use Rattle.values.specs.Kinds.{Lawful}
 use Rattle.values.specs.Coefficients.{coefficient_of, coefficient_kind}
 use Rattle.values.specs.declared.coefficient.Coefficient.{Coefficient}
 

@@ -1,6 +1,6 @@
 -- Modes keep the law of a value kind: a tag and an argument that read as a mode are those that it writes. By the cases
 -- of the tag, and each argument in its range or out of it.
-use Rattle.std.specs.Prelude.{◌≡◌, ℕ, zero, suc, ◌+◌, ◌^◌, ◌<◌, ◌≤◌, Bool, true, false, cond, T, List, ◌++◌, length, take, drop, replicate, Some, None, Ok, Err, Option, Result, ◌==◌, refl}
+use Rattle.std.specs.Prelude.{◌≡◌, ℕ, zero, suc, ◌^◌, ◌<◌, ◌≤◌, Bool, true, false, cond, T, ◌++◌, length, take, drop, replicate, Some, Ok, Err, Result, ◌==◌, refl}
 use Rattle.std.proofs.Common.{sym, ap, ap₂, subst, ◌∙◌, mod-eq_of_lt, arith, eqb→eq, length-append, length-take, length-drop}
 use mathlib.Core.HLevel.{is_prop→PathP}
 use Rattle.std.proofs.Math.Bridge.{le_prop}
@@ -10,8 +10,8 @@ use Rattle.fields.specs.Bits.{bits, num}
 use Rattle.fields.specs.Fields.{splice}
 use Rattle.fields.proofs.BitLaws.{bits_length, num_bits, bits_num}
 use Rattle.fields.proofs.SpliceLaws.{splice_next}
-use Rattle.values.specs.Kinds.{Kind, Lawful}
-use Rattle.values.specs.Modes.{channel_if, channel_of, hertz_if, hertz_of, bypass_with, notch_with, bypass_of, notch_of, tag, argument, mode_of, mode_kind}
+use Rattle.values.specs.Kinds.{Lawful}
+use Rattle.values.specs.Modes.{channel_if, channel_of, hertz_if, hertz_of, bypass_with, notch_with, tag, argument, mode_of, mode_kind}
 use Rattle.values.specs.Refusals.{of_value}
 use Rattle.values.specs.declared.fault.Fault.{Fault}
 use Rattle.values.specs.declared.mode.Channel.{Channel}

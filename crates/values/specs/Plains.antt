@@ -1,5 +1,5 @@
 -- What fields laid one after the other over zero bytes make: their bits, and zeros behind them.
-use Rattle.std.specs.Prelude.{◌≡◌, ℕ, zero, suc, ◌+◌, ◌-◌, ◌*◌, ◌≤◌, Bool, false, List, ◌++◌, length, drop, replicate, refl}
+use Rattle.std.specs.Prelude.{◌≡◌, ℕ, zero, suc, ◌-◌, ◌*◌, Bool, false, List, ◌++◌, length, drop, replicate, refl}
 use Rattle.std.proofs.Common.{ap, ◌∙◌, arith}
 use Rattle.std.proofs.lemmas.List.{drop-replicate, length-replicate}
 use Rattle.fields.specs.Bits.{odd, bits, bits_of}

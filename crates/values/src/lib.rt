@@ -1,4 +1,6 @@
 // Values, the plain bits that they are written as, and refusals.
+#![tactic(auto)]
+
 pub mod block;
 pub mod coefficient;
 pub mod fault;

@@ -1,7 +1,7 @@
 -- Laws of waiting lists: how far a search has come, and what one move of a taken item's followers leaves.
 -- By places: two lists are equal where they have the same items at every place.
-use Rattle.std.proofs.Common.{◌≡◌, ℕ, zero, suc, ◌+◌, ◌-◌, ◌<◌, ◌≤◌, Bool, true, false, cond, ◌≢◌, List, [], ◌∷◌, ◌++◌, length, get_or, take, drop, set, Some, None, sym, refl, ap, ◌∙◌, ⊎_elim, add-one, arith, rules}
-use Rattle.std.proofs.lemmas.List.{places, same_lists, take_more_set, drop_more, drop_all, get_or-take, length-take, get_or_default, get_or-set_same, get_or-set_other, length-set, take-append-drop}
+use Rattle.std.proofs.Common.{◌≡◌, ℕ, suc, ◌+◌, ◌-◌, ◌<◌, ◌≤◌, Bool, true, false, cond, ◌≢◌, List, [], ◌∷◌, ◌++◌, length, get_or, take, drop, set, Some, None, sym, refl, ap, ◌∙◌, ⊎_elim, add-one, arith, rules}
+use Rattle.std.proofs.lemmas.List.{places, same_lists, take_more_set, drop_more, drop_all, get_or_default, get_or-set_same, get_or-set_other, length-set}
 use Rattle.std.proofs.lemmas.Bool.{cases_lt, cases_eq}
 use Rattle.waiting.specs.Queues.{first_where, closed_up}
 

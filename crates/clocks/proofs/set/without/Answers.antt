@@ -1,5 +1,5 @@
 -- A site of the set counts in its number, so that nothing is taken from less.
-use Rattle.std.proofs.Common.{◌^◌, ◌≤◌, sym, ◌∙◌, arith}
+use Rattle.std.proofs.Common.{sym, ◌∙◌, arith}
 use Rattle.std.proofs.lemmas.Nat.{one_shl}
 use Rattle.clocks.proofs.SiteLaws.{has_le}
 use Rattle.clocks.proofs.set.without.Goals as goal

@@ -1,4 +1,4 @@
-use Rattle.std.proofs.Common.{◌^◌, ◌<◌, arith, rules}
+use Rattle.std.proofs.Common.{◌<◌, arith, rules}
 use Rattle.fields.proofs.Masks.{patch_is, patch_lt}
 use Rattle.fields.proofs.bytes.patch.Goals as goal
 

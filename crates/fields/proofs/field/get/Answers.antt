@@ -1,4 +1,4 @@
-use Rattle.std.proofs.Common.{◌+◌, ◌-◌, ◌*◌, ◌/◌, ◌%◌, ◌^◌, ◌<◌, ◌≤◌, get_or, take, drop, sym, ap, ◌∙◌, lt_of_lt_of_le, arith, pow_mono}
+use Rattle.std.proofs.Common.{◌+◌, ◌-◌, ◌*◌, ◌^◌, ◌<◌, ◌≤◌, take, drop, sym, ap, ◌∙◌, lt_of_lt_of_le, arith, pow_mono}
 use Rattle.std.proofs.lemmas.Nat.{mod_below, pow_pos}
 use Rattle.fields.specs.Bits.{num, bits_of}
 use Rattle.fields.proofs.Inverses.{field_lt}

@@ -1,4 +1,4 @@
-use Rattle.std.proofs.Common.{◌-◌, ◌%◌, ◌≤◌, sym, ◌∙◌, arith, rules}
+use Rattle.std.proofs.Common.{◌-◌, ◌≤◌, sym, ◌∙◌, arith}
 use Rattle.fields.proofs.Turns.{put_step, put_end}
 use Rattle.fields.proofs.field.put.Goals as goal
 use Rattle.fields.proofs.field.put.Goals.{then-left-room, else-left-room}

@@ -1,4 +1,4 @@
-use Rattle.std.proofs.Common.{◌≡◌, ◌+◌, ◌*◌, ◌≤◌, length}
+use Rattle.std.proofs.Common.{◌≡◌, ◌+◌, ◌≤◌}
 use Rattle.fields.specs.Bits.{bits, bits_of}
 use Rattle.fields.specs.Fields.{splice}
 use Rattle.fields.proofs.field.put.Given as goal

@@ -1,4 +1,4 @@
-use Rattle.std.proofs.Common.{◌+◌, ◌-◌, ◌*◌, ◌≤◌, length, sym, ◌∙◌, arith}
+use Rattle.std.proofs.Common.{◌+◌, ◌-◌, ◌≤◌, sym, ◌∙◌, arith}
 use Rattle.fields.specs.Bits.{bits_of}
 use Rattle.fields.proofs.Turns.{copy_step, copy_end}
 use Rattle.fields.proofs.ByteLaws.{bits_of_length}

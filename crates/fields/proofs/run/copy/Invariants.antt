@@ -1,5 +1,5 @@
-use Rattle.std.proofs.Common.{◌≡◌, ◌+◌, ◌-◌, ◌*◌, ◌≤◌, length, take, drop}
-use Rattle.fields.specs.Bits.{bits, bits_of}
+use Rattle.std.proofs.Common.{◌≡◌, ◌+◌, ◌-◌, ◌≤◌, take, drop}
+use Rattle.fields.specs.Bits.{bits_of}
 use Rattle.fields.specs.Fields.{splice}
 use Rattle.fields.proofs.run.copy.Given as goal
 

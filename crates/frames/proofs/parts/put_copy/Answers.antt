@@ -1,4 +1,4 @@
-use Rattle.std.proofs.Common.{◌≡◌, ◌+◌, ◌*◌, ◌≤◌, length, arith, length-take, rules}
+use Rattle.std.proofs.Common.{◌≤◌, length, arith, length-take, rules}
 use Rattle.fields.specs.Bits.{bits_of}
 use Rattle.fields.proofs.ByteLaws.{bits_of_length}
 use Rattle.frames.proofs.LayoutLaws.{copy_laid}

@@ -1,4 +1,4 @@
-use Rattle.std.proofs.Common.{◌≡◌, ◌+◌, ◌≤◌, length, take, drop, sym, ap, ◌∙◌, arith, length-drop}
+use Rattle.std.proofs.Common.{drop, sym, ap, ◌∙◌, arith, length-drop}
 use Rattle.fields.specs.Bits.{bits_of}
 use Rattle.fields.proofs.ByteLaws.{bits_of_length}
 use Rattle.values.specs.Kinds.{taken}

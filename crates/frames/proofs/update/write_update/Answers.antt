@@ -1,8 +1,7 @@
-use Rattle.std.proofs.Common.{◌≡◌, ◌+◌, ◌*◌, ◌<◌, ◌≤◌, false, ltb, [], ◌∷◌, length, take, Ok, sym, refl, ap, arith, rules, le-ltb}
+use Rattle.std.proofs.Common.{◌≡◌, ◌+◌, ◌*◌, ◌<◌, ◌≤◌, false, ltb, [], ◌∷◌, length, Ok, sym, refl, ap, arith, rules, le-ltb}
 use Rattle.std.proofs.ByRecursion.{All-from_get_or}
 use Rattle.std.specs.List.{AllByRecursion as All}
-use Rattle.fields.specs.Bits.{bits, bits_of}
-use Rattle.fields.specs.Fields.{splice}
+use Rattle.fields.specs.Bits.{bits_of}
 use Rattle.fields.proofs.ByteLaws.{bits_of_length}
 use Rattle.frames.specs.Layouts.{Fields, bytes_for}
 use Rattle.frames.specs.Messages.{update_bits, update_fields, update_frame, carried}

@@ -1,5 +1,4 @@
-use Rattle.std.proofs.Common.{◌≡◌, suc, ◌-◌, length, take, drop, sym, ap, ◌∙◌, true-eqb}
-use Rattle.script.specs.Lines.{before}
+use Rattle.std.proofs.Common.{suc, ◌-◌, length, take, drop, sym, ap, ◌∙◌, true-eqb}
 use Rattle.script.proofs.Cuts.{tail_is, empty_is}
 use Rattle.script.proofs.lines.cut.Goals as goal
 

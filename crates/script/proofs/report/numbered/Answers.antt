@@ -1,7 +1,7 @@
-use Rattle.std.proofs.Common.{◌≡◌, suc, ◌+◌, ◌<◌, ◌++◌, length, string_bytes, ap, ◌∙◌, arith, true-eqb, false-eqb}
+use Rattle.std.proofs.Common.{suc, ◌+◌, ◌<◌, ◌++◌, length, string_bytes, ap, ◌∙◌, arith, true-eqb, false-eqb}
 use Rattle.std.proofs.lemmas.List.{length-drop}
 use Rattle.script.specs.Lines.{before, lines}
-use Rattle.script.specs.Reports.{said, numbered}
+use Rattle.script.specs.Reports.{numbered}
 use Rattle.script.proofs.Cuts.{turn, ended}
 use Rattle.script.proofs.report.numbered.Goals as goal
 use Rattle.script.proofs.report.numbered.Goals.{In_ok-push_str}

@@ -1,4 +1,4 @@
-use Rattle.std.proofs.Common.{◌≡◌, ◌+◌, ◌<◌, ◌≤◌, true, false, length, get_or, take, sym, ap, ◌∙◌, arith, rules}
+use Rattle.std.proofs.Common.{take, sym, ◌∙◌, rules}
 use Rattle.std.proofs.lemmas.List.{length-take, get_or-take}
 use Rattle.clocks.specs.Rows.{nowhere_below}
 use Rattle.waiting.proofs.QueueLaws.{first_skip, first_hit, first_none}

@@ -1,5 +1,4 @@
-use Rattle.std.proofs.Common.{◌≡◌, ◌+◌, ◌<◌, ◌≤◌, length, sym, ap, arith, rules}
-use Rattle.waiting.specs.Queues.{closed_up}
+use Rattle.std.proofs.Common.{length, sym, ap, arith, rules}
 use Rattle.waiting.proofs.QueueLaws.{closed_none, closed_more, closed_length}
 use Rattle.waiting.proofs.list.WaitingList.take.Goals as goal
 

@@ -1,4 +1,4 @@
-use Rattle.std.proofs.Common.{◌≡◌, ◌≤◌, length, take, drop}
+use Rattle.std.proofs.Common.{◌≡◌}
 use Rattle.waiting.specs.Queues.{closed_up}
 use Rattle.waiting.proofs.list.WaitingList.take.Given as goal
 

@@ -1,5 +1,5 @@
 -- All sites below n are told by 2 to the power n, less one.
-use Rattle.std.proofs.Common.{◌-◌, ltb, sym, arith}
+use Rattle.std.proofs.Common.{ltb, sym, arith}
 use Rattle.std.proofs.lemmas.Nat.{one_shl}
 use Rattle.placements.proofs.HeldLaws.{held_past, full_told}
 use Rattle.placements.proofs.full.calls.FullPlacement.holders.Goals as goal

@@ -1,5 +1,4 @@
-use Rattle.std.proofs.Common.{◌≡◌, ◌^◌, ◌<◌, Ok, ap, ◌∙◌, arith, w16, SFits, to_z, of_z}
-use lib.Signed.{mag}
+use Rattle.std.proofs.Common.{Ok, ap, ◌∙◌, arith, w16, to_z}
 use Rattle.std.proofs.lemmas.Int.{to_z-of_z}
 use Rattle.fields.specs.Bits.{bits_of}
 use Rattle.values.specs.Kinds.{taken}

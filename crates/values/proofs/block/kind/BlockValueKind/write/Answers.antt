@@ -1,8 +1,7 @@
-use Rattle.std.proofs.Common.{◌≡◌, false, [], ◌∷◌, ◌++◌, replicate, refl, ap, ◌∙◌, arith, w16, of_z}
+use Rattle.std.proofs.Common.{false, [], ◌∷◌, ◌++◌, replicate, refl, ap, ◌∙◌, arith, w16, of_z}
 use Rattle.std.proofs.lemmas.Int.{to_z-of_z}
 use Rattle.fields.specs.Bits.{bits_of}
 use Rattle.fields.specs.Fields.{row}
-use Rattle.values.specs.Blocks.{samples}
 use Rattle.values.specs.Kinds.{plain}
 use Rattle.values.specs.BlockLaws.{sample_laid, none_laid, all_laid, samples_are}
 use Rattle.values.specs.Plains.{blank}

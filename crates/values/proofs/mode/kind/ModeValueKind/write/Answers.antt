@@ -1,4 +1,4 @@
-use Rattle.std.proofs.Common.{◌≡◌, ap, ◌∙◌, ap₂}
+use Rattle.std.proofs.Common.{ap, ◌∙◌, ap₂}
 use Rattle.fields.specs.Bits.{bits}
 use Rattle.fields.specs.Fields.{splice}
 use Rattle.values.specs.Kinds.{plain}

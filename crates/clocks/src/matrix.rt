@@ -70,7 +70,7 @@ impl Matrix {
     pub fn raise(&mut self, n: u8, i: u8, holders: u8)
         requires n_bound { n ≤ 8 }
         requires i_lt_n { i < n }
-        requires holders_value { room n self.old.counts i holders ≡ true }
+        requires has_room { room n self.old.counts i holders ≡ true }
         ensures { self.new.counts ≡ raised n self.old.counts i holders }
     {
         for l in 0..n {

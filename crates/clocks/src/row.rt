@@ -30,7 +30,7 @@ impl Row {
     // One more write of site k.
     pub fn raise(&mut self, k: u8)
         requires k_bound { k < 8 }
-        requires k_bound_2 { slice_index self.old.counts k < limit }
+        requires can_rise { slice_index self.old.counts k < limit }
         ensures { self.new.counts ≡ raised_at self.old.counts k }
     {
         self.counts[k as usize] += 1;

@@ -4,7 +4,7 @@ use Rattle.std.proofs.Common.{◌≡◌, ℕ, zero, suc, ◌+◌, ◌-◌, ◌*�
 use Rattle.std.proofs.lemmas.List.{nil_from_length, drop_at, take_at, take-append-le, drop-append-le, drop_all, drop-drop, take-append-drop}
 use Rattle.std.proofs.lemmas.Nat.{mul-add-lt, mod_below, pow_pos, pow-add, shr_high}
 use Rattle.std.proofs.ByRecursion.{All-drop}
-use Rattle.std.specs.List.{AllByRecursion as All}
+use Rattle.std.specs.List.{AllByRecursion}
 use Rattle.fields.specs.Bits.{bits, num, bits_of, bytes_by}
 use Rattle.fields.specs.Fields.{splice}
 use Rattle.fields.proofs.BitLaws.{bits_length, bits_low, bits_last, bits_split, bits_num, num_bits}
@@ -91,7 +91,7 @@ bytes_append (suc n) m xs ys e =
     rw (suc-add n m, take-append-le 8 xs ys h, drop-append-le 8 xs ys h, bytes_append n m (drop 8 xs) ys e')
 
 -- bytes come back from their bits
-pub bytes_back : (bs : List ℕ) → All (λ b. b < 256) bs → bytes_by (length bs) (bits_of bs) ≡ bs
+pub bytes_back : (bs : List ℕ) → AllByRecursion (λ b. b < 256) bs → bytes_by (length bs) (bits_of bs) ≡ bs
 unfolding bytes_by bits_of
 bytes_back [] h = refl
 bytes_back (b ∷ bs) h =
@@ -108,7 +108,7 @@ bits_back (suc n) ws e =
     rw (b, bits_back n (drop 8 ws) (rw (length-drop 8 ws) (omega arith))) (take-append-drop 8 ws)
 
 -- a place whose first bits are ws and whose others are as before
-pub bytes_from : (ps qs : List ℕ) (ws : List Bool) (n : ℕ) → All (λ b. b < 256) ps → All (λ b. b < 256) qs → length ps ≡ length qs → n ≤ length qs → length ws ≡ 8 * n
+pub bytes_from : (ps qs : List ℕ) (ws : List Bool) (n : ℕ) → AllByRecursion (λ b. b < 256) ps → AllByRecursion (λ b. b < 256) qs → length ps ≡ length qs → n ≤ length qs → length ws ≡ 8 * n
     → bits_of ps ≡ ws ++ drop (8 * n) (bits_of qs) → ps ≡ bytes_by n ws ++ drop n qs
 bytes_from ps qs ws n hp hq e h lw f =
     let s : length ps ≡ n + length (drop n qs) = rw (length-drop n qs) (omega arith) in

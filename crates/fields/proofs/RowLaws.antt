@@ -2,7 +2,7 @@
 -- By induction on the row.
 use Rattle.std.proofs.Common.{◌≡◌, ℕ, zero, suc, ◌+◌, ◌*◌, ◌^◌, ◌<◌, ◌≤◌, Bool, List, [], ◌∷◌, ◌++◌, length, get_or, take, drop, set, sym, refl, ap, ◌∙◌, ap₂, append_assoc, mod-eq_of_lt, suc-add, mul-le-mul_left, mul-zero, mul-suc, arith, length-append, length-drop, length-take, take-add}
 use Rattle.std.proofs.lemmas.List.{take_at, drop_at, drop-drop, take_more, take_more_set, append-nil}
-use Rattle.std.specs.List.{AllByRecursion as All}
+use Rattle.std.specs.List.{AllByRecursion}
 use Rattle.fields.specs.Bits.{bits, num}
 use Rattle.fields.specs.Fields.{splice, row, numbers}
 use Rattle.fields.proofs.BitLaws.{bits_length, num_bits, bits_num, num_lt}
@@ -40,7 +40,7 @@ module _ (w : ℕ) where
   numbers_length zero bs = refl
   numbers_length (suc n) bs = ap suc (numbers_length n (drop w bs))
 
-  pub numbers_small : (n : ℕ) (bs : List Bool) → w * n ≤ length bs → All (λ x. x < 2 ^ w) (numbers w n bs)
+  pub numbers_small : (n : ℕ) (bs : List Bool) → w * n ≤ length bs → AllByRecursion (λ x. x < 2 ^ w) (numbers w n bs)
   unfolding numbers
   numbers_small zero bs h = tt
   numbers_small (suc n) bs h =
@@ -49,7 +49,7 @@ module _ (w : ℕ) where
       (rw l at (num_lt (take w bs)), numbers_small n (drop w bs) (rw (length-drop w bs) (omega arith)))
 
   -- numbers and row are inverse to each other
-  pub numbers_row : (xs : List ℕ) (r : List Bool) → All (λ x. x < 2 ^ w) xs → numbers w (length xs) (row w xs ++ r) ≡ xs
+  pub numbers_row : (xs : List ℕ) (r : List Bool) → AllByRecursion (λ x. x < 2 ^ w) xs → numbers w (length xs) (row w xs ++ r) ≡ xs
   unfolding numbers row
   numbers_row [] r h = refl
   numbers_row (x ∷ xs) r h =

@@ -8,7 +8,7 @@
 --
 -- Assumes nothing.
 use Rattle.std.specs.Prelude.{◌≡◌, ℕ, zero, suc, ◌+◌, ◌*◌, ◌%◌, ◌^◌, ◌<◌, ◌≤◌, Bool, List, [], ◌∷◌, ◌++◌, length, take, drop}
-use Rattle.std.specs.List.{AllByRecursion as All}
+use Rattle.std.specs.List.{AllByRecursion}
 use Rattle.fields.specs.Bits.{bits, num}
 
 abbrev pub run : List Bool → ℕ → ℕ → List Bool
@@ -46,7 +46,7 @@ KeepsOthers =
 
 -- the same for a row of numbers
 abbrev pub ReadsTheRowPut : Type 0
-ReadsTheRowPut = (w : ℕ) (bs : List Bool) (at : ℕ) (xs : List ℕ) → at + w * length xs ≤ length bs → All (λ x. x < 2 ^ w) xs → numbers w (length xs) (drop at (splice bs at (row w xs))) ≡ xs
+ReadsTheRowPut = (w : ℕ) (bs : List Bool) (at : ℕ) (xs : List ℕ) → at + w * length xs ≤ length bs → AllByRecursion (λ x. x < 2 ^ w) xs → numbers w (length xs) (drop at (splice bs at (row w xs))) ≡ xs
 
 abbrev pub PutsTheRowRead : Type 0
 PutsTheRowRead = (w : ℕ) (bs : List Bool) (at n : ℕ) → at + w * n ≤ length bs → splice bs at (row w (numbers w n (drop at bs))) ≡ bs

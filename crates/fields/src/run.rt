@@ -7,8 +7,8 @@ use crate::field::{get, put};
 
 // Copies `width` bits, those of `from` from `start` on, over those of `place` from `at` on.
 pub fn copy(place: &mut [u8], at: usize, from: &[u8], start: usize, width: usize)
-    requires width_bound { (at + width < 2 ^ 64) × (start + width < 2 ^ 64) }
-    requires width_bound_2 { (at + width ≤ 8 * length place.old) × (start + width ≤ 8 * length from.now) }
+    requires no_wrap { (at + width < 2 ^ 64) × (start + width < 2 ^ 64) }
+    requires in_place { (at + width ≤ 8 * length place.old) × (start + width ≤ 8 * length from.now) }
     ensures { bits_of place.new ≡ splice (bits_of place.old) at (run_of (bits_of from.now) start width) }
 {
     let mut done = 0;

@@ -2,7 +2,7 @@
 -- By induction on the fields; counts and value follow by the laws of rows and runs.
 use Rattle.std.proofs.Common.{◌≡◌, ℕ, ◌+◌, ◌-◌, ◌*◌, ◌^◌, ◌<◌, ◌≤◌, Bool, false, ltb, List, [], ◌∷◌, ◌++◌, length, take, drop, replicate, sym, refl, ap, ◌∙◌, subst, ap₂, append_assoc, mod-eq_of_lt, arith, length-append, length-drop, length-take, take-add, le-ltb}
 use Rattle.std.proofs.lemmas.List.{drop_at, take_at, take_all, drop-drop, take-append-drop, append-nil, length-replicate}
-use Rattle.std.specs.List.{AllByRecursion as All}
+use Rattle.std.specs.List.{AllByRecursion}
 use Rattle.fields.specs.Bits.{bits, num, bits_of, bytes_by}
 use Rattle.fields.specs.Fields.{run, field, splice, row, numbers}
 use Rattle.fields.proofs.BitLaws.{bits_length, bits_num, num_bits, bits_zero, num_zeros}
@@ -101,7 +101,7 @@ module _ (fs : Fields) (cs : List ℕ) (vs : List Bool) where
   unfolding end
   from_filling = sym (drop-drop (length vs) (span fs + 24 * length cs) B) ∙ ap (drop (length vs)) from_value ∙ drop_at vs (filling end) (length vs) refl
 
-  carry : Fit fs → All (λ c. c < 2 ^ 24) cs → Carries (framed fs cs vs) fs cs vs (span fs + 24 * length cs + length vs)
+  carry : Fit fs → AllByRecursion (λ c. c < 2 ^ 24) cs → Carries (framed fs cs vs) fs cs vs (span fs + 24 * length cs + length vs)
   unfolding B end
   carry fit small =
       let b : bits_of (framed fs cs vs) ≡ laid fs ++ (row 24 cs ++ (vs ++ filling (span fs + 24 * length cs + length vs))) = framed_bits fs cs vs in
@@ -160,7 +160,7 @@ field_laid B P Q fs w x at e s h q =
     q ∙ ap (λ p. splice p at (bits w x)) e ∙ splice_next B (laid fs) (bits w x) at (laid_length fs ∙ sym s) h ∙ ap (splice B 0) (sym (laid_push fs w x))
 
 -- the place once all is laid
-pub all_laid : (ps qs : List ℕ) (P : List Bool) (fs : Fields) (cs : List ℕ) (vs : List Bool) (at end : ℕ) → All (λ b. b < 256) ps → All (λ b. b < 256) qs → length ps ≡ length qs
+pub all_laid : (ps qs : List ℕ) (P : List Bool) (fs : Fields) (cs : List ℕ) (vs : List Bool) (at end : ℕ) → AllByRecursion (λ b. b < 256) ps → AllByRecursion (λ b. b < 256) qs → length ps ≡ length qs
     → end ≡ span fs + 24 * length cs + length vs → bytes_for end ≤ length qs → at ≡ span fs → P ≡ splice (bits_of qs) 0 (laid fs)
     → bits_of ps ≡ splice P at (row 24 cs ++ (vs ++ filling end)) → ps ≡ framed fs cs vs ++ drop (length (framed fs cs vs)) qs
 unfolding framed body
@@ -217,7 +217,7 @@ column_laid B P R counts at n size many es room p r =
     ∙ ap (λ m. splice (splice B at X) m (filling (at + 24 * n))) a1 ∙ splice_splice B X (filling (at + 24 * n)) at (omega arith)
 
 -- the place as the rule of writing has it
-pub placed : (ps qs : List ℕ) (P : List Bool) (fs : Fields) (cs : List ℕ) (vs : List Bool) (at end size n : ℕ) → All (λ b. b < 256) ps → All (λ b. b < 256) qs → length ps ≡ length qs
+pub placed : (ps qs : List ℕ) (P : List Bool) (fs : Fields) (cs : List ℕ) (vs : List Bool) (at end size n : ℕ) → AllByRecursion (λ b. b < 256) ps → AllByRecursion (λ b. b < 256) qs → length ps ≡ length qs
     → length cs ≡ n → end ≡ span fs + 24 * n + length vs → size ≡ bytes_for end → size ≤ length qs → at ≡ span fs → P ≡ splice (bits_of qs) 0 (laid fs)
     → bits_of ps ≡ splice P at (row 24 cs ++ (vs ++ filling end)) → ps ≡ write_place size (framed fs cs vs) qs
 placed ps qs P fs cs vs at end size n sp sq l ln e es room a ep eq =

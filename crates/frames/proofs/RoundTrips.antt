@@ -3,7 +3,7 @@
 use Rattle.std.proofs.Common.{◌≡◌, ℕ, ◌+◌, ◌-◌, ◌*◌, ◌^◌, ◌<◌, ◌≤◌, Bool, true, false, cond, ◌&&◌, eqb, ltb, leb, List, [], ◌++◌, length, take, drop, replicate, Some, None, Ok, Err, Option, Result, sym, refl, ap, ◌∙◌, subst, ap₂, arith, length-drop, length-take, ltb-true, le-ltb, lt-ltb, eq-eqb, ne_eqb, eqb-true, le-leb, leb-true}
 use borrow.Author.Tests.{eqb-false}
 use Rattle.std.proofs.lemmas.List.{take_at}
-use Rattle.std.specs.List.{AllByRecursion as All}
+use Rattle.std.specs.List.{AllByRecursion}
 use Rattle.fields.specs.Bits.{bits_of}
 use Rattle.fields.specs.Fields.{run, field, numbers}
 use Rattle.fields.proofs.ByteLaws.{bits_of_length}
@@ -86,7 +86,7 @@ counts_good size n B at h =
     let xs = numbers 24 n (drop at B) in
     let t : take n (counts_at B at size n) ≡ xs = take_at xs (replicate (size - n) 0) n (numbers_length 24 n (drop at B)) in
     let l : n ≤ length (take n (counts_at B at size n)) = rw (t, numbers_length 24 n (drop at B)) (omega arith) in
-    (omega (arith, length-take n (counts_at B at size n)), subst (λ l. All (λ c. c < 2 ^ 24) l) (sym t) (numbers_small 24 n (drop at B) (simp length-drop (omega arith))))
+    (omega (arith, length-take n (counts_at B at size n)), subst (λ l. AllByRecursion (λ c. c < 2 ^ 24) l) (sym t) (numbers_small 24 n (drop at B) (simp length-drop (omega arith))))
 
 counts_taken : (size n : ℕ) (B : List Bool) (at : ℕ) → numbers 24 n (drop at B) ≡ take n (counts_at B at size n)
 counts_taken size n B at = sym (take_at (numbers 24 n (drop at B)) (replicate (size - n) 0) n (numbers_length 24 n (drop at B)))
@@ -129,7 +129,7 @@ module _ {V : Type 0} (k : Kind V) (law : Lawful k) where
       (ap (λ e. field B e (8 * length bytes - e)) (sym end) ∙ c.filled)
       (ap (λ x. numbers 24 x (drop 43 B)) (sym lc) ∙ c.counts)
 
-  update_only : (bytes : List ℕ) (m : Update V) → All (λ b. b < 256) bytes → update_read k bytes ≡ Ok m → (bytes ≡ update_frame k m) × UpdateInRange m × (update_clean m ≡ m)
+  update_only : (bytes : List ℕ) (m : Update V) → AllByRecursion (λ b. b < 256) bytes → update_read k bytes ≡ Ok m → (bytes ≡ update_frame k m) × UpdateInRange m × (update_clean m ≡ m)
   unfolding update_frame
   update_only bytes m small e =
       let B = bits_of bytes in
@@ -244,7 +244,7 @@ module _ {V : Type 0} (k : Kind V) (law : Lawful k) where
           let s : x ≡ label = cc in
           subst (Labelled B n) s (record { written_is = omega (arith, field_lt B 46 1, eqb-false _ _ q); writer_is = eqb-true _ _ a.0; number_is = eqb-true _ _ b.0; good = tt })
 
-  reply_only : (bytes : List ℕ) (m : Reply V) → All (λ b. b < 256) bytes → reply_read k bytes ≡ Ok m → (bytes ≡ reply_frame k m) × ReplyInRange m × (reply_clean m ≡ m)
+  reply_only : (bytes : List ℕ) (m : Reply V) → AllByRecursion (λ b. b < 256) bytes → reply_read k bytes ≡ Ok m → (bytes ≡ reply_frame k m) × ReplyInRange m × (reply_clean m ≡ m)
   unfolding reply_frame
   reply_only bytes m small e =
       let B = bits_of bytes in
@@ -323,7 +323,7 @@ fetch_back m good =
     (ap (λ e. field B e (8 * length bytes - e)) (sym end) ∙ c.filled)
     (ap (λ x. numbers 24 x (drop 46 B)) (sym lc) ∙ c.counts)
 
-fetch_only : (bytes : List ℕ) (m : Fetch) → All (λ b. b < 256) bytes → fetch_read bytes ≡ Ok m → (bytes ≡ fetch_frame m) × FetchInRange m × (fetch_clean m ≡ m)
+fetch_only : (bytes : List ℕ) (m : Fetch) → AllByRecursion (λ b. b < 256) bytes → fetch_read bytes ≡ Ok m → (bytes ≡ fetch_frame m) × FetchInRange m × (fetch_clean m ≡ m)
 unfolding fetch_frame
 fetch_only bytes m small e =
     let B = bits_of bytes in

@@ -12,7 +12,7 @@
 --
 -- Assumes nothing.
 use Rattle.std.specs.Prelude.{◌≡◌, ℕ, ◌+◌, ◌-◌, ◌*◌, ◌/◌, ◌^◌, ◌<◌, Bool, false, List, [], ◌∷◌, ◌++◌, length, drop, replicate}
-use Rattle.std.specs.List.{AllByRecursion as All}
+use Rattle.std.specs.List.{AllByRecursion}
 use Rattle.fields.specs.Bits.{bits, bits_of, bytes_by}
 use Rattle.fields.specs.Fields.{run, field, row, numbers}
 
@@ -58,10 +58,10 @@ pub record Carries (bytes : List ℕ) (fs : Fields) (cs : List ℕ) (vs : List B
   pub filled : field (bits_of bytes) end (8 * length bytes - end) ≡ 0
 
 abbrev pub FramesCarry : Type 0
-FramesCarry = (fs : Fields) (cs : List ℕ) (vs : List Bool) → Fit fs → All (λ c. c < 2 ^ 24) cs → Carries (framed fs cs vs) fs cs vs (span fs + 24 * length cs + length vs)
+FramesCarry = (fs : Fields) (cs : List ℕ) (vs : List Bool) → Fit fs → AllByRecursion (λ c. c < 2 ^ 24) cs → Carries (framed fs cs vs) fs cs vs (span fs + 24 * length cs + length vs)
 
 -- bytes that carry fields, counts and a value, and zeros behind, are their frame
 abbrev pub OnlyFramesCarry : Type 0
-OnlyFramesCarry = (bytes : List ℕ) (fs : Fields) (n w : ℕ) → All (λ b. b < 256) bytes → length bytes ≡ bytes_for (span fs + 24 * n + w) → Holds (bits_of bytes) 0 fs
+OnlyFramesCarry = (bytes : List ℕ) (fs : Fields) (n w : ℕ) → AllByRecursion (λ b. b < 256) bytes → length bytes ≡ bytes_for (span fs + 24 * n + w) → Holds (bits_of bytes) 0 fs
     → field (bits_of bytes) (span fs + 24 * n + w) (8 * length bytes - (span fs + 24 * n + w)) ≡ 0
     → bytes ≡ framed fs (numbers 24 n (drop (span fs) (bits_of bytes))) (run (bits_of bytes) (span fs + 24 * n) w)

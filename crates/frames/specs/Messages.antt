@@ -10,7 +10,7 @@
 --
 -- Assumes nothing.
 use Rattle.std.specs.Prelude.{ℕ, ◌+◌, ◌-◌, ◌*◌, ◌^◌, ◌<◌, ◌≤◌, List, [], ◌∷◌, ◌++◌, length, take, replicate, Some, None, Option}
-use Rattle.std.specs.List.{AllByRecursion as All}
+use Rattle.std.specs.List.{AllByRecursion}
 use Rattle.values.specs.Kinds.{Kind}
 use Rattle.frames.specs.Layouts.{Fields, framed}
 use Rattle.frames.specs.declared.message.Update.{Update}
@@ -110,7 +110,7 @@ Number x = (1 ≤ x) × (x < 2 ^ 24)
 
 -- n counts at least, the first n of 24 bits each
 abbrev pub Counts : ℕ → List ℕ → Type 0
-Counts n counts = (n ≤ length counts) × All (λ c. c < 2 ^ 24) (take n counts)
+Counts n counts = (n ≤ length counts) × AllByRecursion (λ c. c < 2 ^ 24) (take n counts)
 
 -- no label, or a site and a number
 abbrev pub Label : ℕ → Option (ℕ × ℕ) → Type 0

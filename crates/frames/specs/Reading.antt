@@ -9,7 +9,7 @@
 --
 -- Assumes nothing.
 use Rattle.std.specs.Prelude.{◌≡◌, ℕ, ◌+◌, ◌-◌, ◌*◌, ◌<◌, Bool, true, false, cond, ◌&&◌, List, ◌++◌, length, drop, replicate, Some, None, Ok, Err, Option, Result, ◌==◌, nat_le, nat_lt}
-use Rattle.std.specs.List.{AllByRecursion as All}
+use Rattle.std.specs.List.{AllByRecursion}
 use Rattle.fields.specs.Bits.{bits_of}
 use Rattle.fields.specs.Fields.{run, field, numbers}
 use Rattle.values.specs.Kinds.{Kind}
@@ -171,6 +171,6 @@ ReadsBack {V} k =
 -- Bytes that are accepted as a message are exactly the frame of that message, which is in range.
 abbrev pub AcceptsOnlyFrames : {V : Type 0} → Kind V → Type 0
 AcceptsOnlyFrames {V} k =
-    ((bytes : List ℕ) (m : Update V) → All (λ b. b < 256) bytes → update_read k bytes ≡ Ok m → (bytes ≡ update_frame k m) × UpdateInRange m × (update_clean m ≡ m))
-    × ((bytes : List ℕ) (m : Fetch) → All (λ b. b < 256) bytes → fetch_read bytes ≡ Ok m → (bytes ≡ fetch_frame m) × FetchInRange m × (fetch_clean m ≡ m))
-    × ((bytes : List ℕ) (m : Reply V) → All (λ b. b < 256) bytes → reply_read k bytes ≡ Ok m → (bytes ≡ reply_frame k m) × ReplyInRange m × (reply_clean m ≡ m))
+    ((bytes : List ℕ) (m : Update V) → AllByRecursion (λ b. b < 256) bytes → update_read k bytes ≡ Ok m → (bytes ≡ update_frame k m) × UpdateInRange m × (update_clean m ≡ m))
+    × ((bytes : List ℕ) (m : Fetch) → AllByRecursion (λ b. b < 256) bytes → fetch_read bytes ≡ Ok m → (bytes ≡ fetch_frame m) × FetchInRange m × (fetch_clean m ≡ m))
+    × ((bytes : List ℕ) (m : Reply V) → AllByRecursion (λ b. b < 256) bytes → reply_read k bytes ≡ Ok m → (bytes ≡ reply_frame k m) × ReplyInRange m × (reply_clean m ≡ m))

@@ -4,7 +4,7 @@ use Rattle.std.proofs.Common.{◌≡◌, ℕ, ◌+◌, ◌-◌, ◌*◌, ◌^◌
 use native.Mathlib.Decide.{dec_lt}
 use Rattle.std.proofs.ByRecursion.{All-from_get_or}
 use Rattle.std.proofs.lemmas.List.{get_or-take, length-take, get_or_append_left}
-use Rattle.std.specs.List.{AllByRecursion as All}
+use Rattle.std.specs.List.{AllByRecursion}
 use Rattle.clocks.specs.Counts.{within}
 use Rattle.clocks.specs.Matrices.{entry, raised, merged, column}
 use Rattle.clocks.specs.Sites.{told}
@@ -125,7 +125,7 @@ row_view_trimmed n m h = λ i k. at k i
             ap (λ b. cond b (get_or (trimmed 8 n m) k 0) 0) p ∙ sym (ap (λ b. cond b (get_or m k 0) 0) p)
 
 -- counts in range, as frames want them
-pub all_small : (n : ℕ) (m : List ℕ) → within n m ≡ true → All (λ c. c < 2 ^ 24) (take n m)
+pub all_small : (n : ℕ) (m : List ℕ) → within n m ≡ true → AllByRecursion (λ c. c < 2 ^ 24) (take n m)
 all_small n m h =
     All-from_get_or (λ c. c < 2 ^ 24) (take n m) 0 (λ j a.
     let b : j < n = omega (arith, length-take n m) in

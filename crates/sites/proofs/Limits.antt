@@ -1,6 +1,6 @@
 -- Counts that a site keeps stay at most the limit.
 use Rattle.std.proofs.Common.{◌≡◌, ℕ, ◌*◌, ◌^◌, ◌<◌, true, not, ◌||◌, eqb, List, take, replicate, Ok, sym, ap, ◌∙◌, subst, arith}
-use Rattle.std.specs.List.{AllByRecursion as All}
+use Rattle.std.specs.List.{AllByRecursion}
 use Rattle.std.proofs.ByRecursion.{All-get_or}
 use Rattle.std.proofs.lemmas.List.{get_or-take, length-take-le}
 use Rattle.std.proofs.lemmas.Bool.{and_parts, eqb-true}
@@ -34,7 +34,7 @@ pub counts_within : (n : ℕ) (xs : List ℕ) → Counts n xs → within n xs �
 counts_within n xs h = within_from n xs (λ j l. let a = All-get_or (λ c. c < 2 ^ 24) (take n xs) j 0 (rw (length-take-le n xs h.0) l) h.1 in let e = get_or-take n xs j 0 l in omega arith)
 
 -- what a reply brings was read from a frame, whose counts have 24 bits
-pub merged_reply : {V : Type 0} (k : Kind V) → Lawful k → (s : State) (bytes : List ℕ) (m : Reply V) (counts : List ℕ) → All (λ b. b < 256) bytes → reply_read k bytes ≡ Ok m → reply_for_here s m ≡ true
+pub merged_reply : {V : Type 0} (k : Kind V) → Lawful k → (s : State) (bytes : List ℕ) (m : Reply V) (counts : List ℕ) → AllByRecursion (λ b. b < 256) bytes → reply_read k bytes ≡ Ok m → reply_for_here s m ≡ true
     → within (s.sites * s.sites) s.sent ≡ true → counts ≡ merged s.sites s.sent m.matrix.counts → within (s.sites * s.sites) counts ≡ true
 merged_reply k law s bytes m counts small r h w e =
     let n : m.sites ≡ s.sites = eqb-true m.sites s.sites (and_parts (eqb m.sites s.sites) _ h).0 in

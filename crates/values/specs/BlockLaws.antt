@@ -7,7 +7,7 @@ use Rattle.std.specs.Int.Signed.{mag}
 use Rattle.std.specs.Int.{w16}
 use Rattle.std.proofs.lemmas.List.{append-nil, take_all}
 use Rattle.std.proofs.lemmas.Int.{ints, to_z-of_z, of_z-to_z}
-use Rattle.std.specs.List.{AllByRecursion as All}
+use Rattle.std.specs.List.{AllByRecursion}
 use Rattle.fields.specs.Bits.{bits, num}
 use Rattle.fields.specs.Fields.{field, splice, row, numbers}
 use Rattle.fields.proofs.Inverses.{run_take}
@@ -43,7 +43,7 @@ same_block x y p0 p1 p2 p3 p4 p5 p6 p7 =
 complement_of : (n : ℕ) → n < 2 ^ 16 → of_z w16 (to_z w16 n) ≡ n
 complement_of n h = of_z-to_z w16 n h
 
-samples_of : (a b c d e f g h : ℕ) → All (λ n. n < 2 ^ 16) (a ∷ b ∷ c ∷ d ∷ e ∷ f ∷ g ∷ h ∷ []) → samples (block_of (a ∷ b ∷ c ∷ d ∷ e ∷ f ∷ g ∷ h ∷ [])) ≡ a ∷ b ∷ c ∷ d ∷ e ∷ f ∷ g ∷ h ∷ []
+samples_of : (a b c d e f g h : ℕ) → AllByRecursion (λ n. n < 2 ^ 16) (a ∷ b ∷ c ∷ d ∷ e ∷ f ∷ g ∷ h ∷ []) → samples (block_of (a ∷ b ∷ c ∷ d ∷ e ∷ f ∷ g ∷ h ∷ [])) ≡ a ∷ b ∷ c ∷ d ∷ e ∷ f ∷ g ∷ h ∷ []
 samples_of a b c d e f g h s =
     let e0 = complement_of a s.0 in
     let e1 = complement_of b s.1.0 in
@@ -55,7 +55,7 @@ samples_of a b c d e f g h s =
     let e7 = complement_of h s.1.1.1.1.1.1.1.0 in
     cc
 
-samples_small : (v : Block) → All (λ n. n < 2 ^ 16) (samples v)
+samples_small : (v : Block) → AllByRecursion (λ n. n < 2 ^ 16) (samples v)
 samples_small v =
     let h0 : of_z w16 v.first < 2 ^ 16 = omega (arith, ints, v.first_fits) in
     let h1 : of_z w16 v.second < 2 ^ 16 = omega (arith, ints, v.second_fits) in

@@ -1,6 +1,6 @@
 use Rattle.std.proofs.Common.{◌≡◌, ◌+◌, ◌*◌, ◌<◌, ◌≤◌, false, ltb, [], ◌∷◌, length, Ok, sym, refl, ap, arith, rules, le-ltb}
 use Rattle.std.proofs.ByRecursion.{All-from_get_or}
-use Rattle.std.specs.List.{AllByRecursion as All}
+use Rattle.std.specs.List.{AllByRecursion}
 use Rattle.fields.specs.Bits.{bits, bits_of}
 use Rattle.fields.specs.Fields.{splice}
 use Rattle.fields.proofs.ByteLaws.{bits_of_length}
@@ -20,8 +20,8 @@ returns g c =
     let size : c.reply_size-size.result ≡ bytes_for (reply_bits g.V.ValueKind.kind c.args.message.now.sites) = c.reply_size-size.ensures in
     let whole : length (bits_of c.args.place.now) ≡ 8 * length c.args.place.now = bits_of_length q in
     let t : ltb (length c.args.place.now) (bytes_for (reply_bits g.V.ValueKind.kind c.args.message.now.sites)) ≡ false = le-ltb _ _ (omega arith) in
-    let sp : All (λ b. b < 256) c.put_copy.new.place = All-from_get_or (λ b. b < 256) p 0 (λ i h. (c.type_inv.place i).fits) in
-    let sq : All (λ b. b < 256) c.args.place.now = All-from_get_or (λ b. b < 256) c.args.place.now 0 (λ i h. search rules) in
+    let sp : AllByRecursion (λ b. b < 256) c.put_copy.new.place = All-from_get_or (λ b. b < 256) p 0 (λ i h. (c.type_inv.place i).fits) in
+    let sq : AllByRecursion (λ b. b < 256) c.args.place.now = All-from_get_or (λ b. b < 256) c.args.place.now 0 (λ i h. search rules) in
     let B = bits_of q in
     let f0 : Fields = [] in
     let s0 = field_laid B B (bits_of c.put.new.place) f0 4 (3) 0 (none_laid B) refl (omega arith) c.put.ensures in

@@ -14,7 +14,7 @@ overflow_add-self c =
     let n = c.args.n in
     let i = c.args.i in
     let l = c.loop-l.l in
-    let r = room_at n m i c.args.holders c.requires.holders_value l (omega arith) (sym c.has.ensures ∙ c.if-has.true) in
+    let r = room_at n m i c.args.holders c.requires.has_room l (omega arith) (sym c.has.ensures ∙ c.if-has.true) in
     let v =
     ap (λ t. get_or t c.place.result 0) c.loop-l.invariant
     ∙ ap (λ t. get_or (raised_to n m i c.args.holders l) t 0) c.place.ensures.is

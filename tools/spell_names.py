@@ -79,7 +79,7 @@ def main():
             m = LIBRARY.match(line)
             if m:
                 taken |= {w.strip().split(" as ")[-1].strip() for w in m[2].split(",")} | {w.strip().split(" as ")[0].strip() for w in m[2].split(",")}
-        goals = set(re.findall(r"^pub (\S+) : goal\.", text, re.M))
+        goals = set(re.findall(r"^(?:abbrev )?pub (\S+) : goal\.", text, re.M))
         out, last, changed = [], 0, set()
         spans = [m.span() for m in re.finditer(r"^\s*(?:ghost )?use (?:Rattle\.std|native|borrow|denote|mathlib|lib|Prim|base|logic)\b.*$", text, re.M)]
         for m in TOKEN.finditer(text):

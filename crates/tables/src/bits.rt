@@ -6,14 +6,14 @@ use values::kind::{Bits, ValueKind};
 
 // The plain bits of a value.
 pub fn plain<V: ValueKind>(value: &V) -> Bits
-    ensures { result.bytes ≡ plain_bytes kind value.now }
+    ensures { result.bytes ≡ plain_bytes V.kind value.now }
 {
     value.write()
 }
 
 // Are these exactly the bits that some value writes?
 pub fn sound<V: ValueKind + Drop>(bits: &Bits) -> bool
-    ensures { result ≡ sound_bytes kind bits.now.bytes }
+    ensures { result ≡ sound_bytes V.kind bits.now.bytes }
 {
     match V::read(bits) {
         Ok(value) => plain(&value).bytes == bits.bytes,

@@ -23,14 +23,14 @@ pub fn label_ok(label: Option<(u8, u32)>, n: u8) -> bool
 // Does a copy hold no number out of range, at any site of a rack of n?
 pub fn copy_ok<V: ValueKind + Drop>(copy: &Replica, n: u8) -> bool
     requires { n ≤ 8 }
-    ensures { result ≡ copy_ok kind (numbered 0 n 0) copy.now }
+    ensures { result ≡ copy_ok V.kind (numbered 0 n 0) copy.now }
 {
     label_ok(copy.label, n) && copy.matrix.within(n) && sound::<V>(&copy.bits)
 }
 
 // Every copy becomes the start value, without label and with a zero matrix.
 pub fn clear<V: ValueKind + Drop>(copies: &mut [Replica])
-    ensures { copies.new ≡ replicate (length copies.old) (unwritten kind) }
+    ensures { copies.new ≡ replicate (length copies.old) (unwritten V.kind) }
 {
     let start = Replica {
         bits: plain(&V::start()),

@@ -17,7 +17,7 @@ pub fn update_ok<V: ValueKind + Drop>(
 ) -> bool
     requires n_bound { n ≤ 8 }
     requires site_lt_n { site < n }
-    ensures { result ≡ update_ok kind (numbered site n registers) update.now }
+    ensures { result ≡ update_ok V.kind (numbered site n registers) update.now }
 {
     update.sender < n
         && update.register < registers
@@ -38,7 +38,7 @@ pub fn updates_ok<V: ValueKind + Drop>(
     requires n_bound { n ≤ 8 }
     requires site_lt_n { site < n }
     requires count_in_bounds { count ≤ length updates.now }
-    ensures { result ≡ every_item (update_ok kind (numbered site n registers)) (take count updates.now) }
+    ensures { result ≡ every_item (update_ok V.kind (numbered site n registers)) (take count updates.now) }
 {
     for i in 0..count {
         if !update_ok::<V>(&updates[i], site, n, registers) {

@@ -23,8 +23,8 @@ impl Station {
         placement: &P,
         bytes: &[u8],
     ) -> Result<(), Fault>
-        ensures answer { result ≡ (receive_rule kind (placed (P.Placement.count placement.now) (P.Placement.size placement.now) (P.Placement.held placement.now) (P.Homes.asked placement.now)) (station_state self.old) bytes.now).answer }
-        ensures after { station_state self.new ≡ (receive_rule kind (placed (P.Placement.count placement.now) (P.Placement.size placement.now) (P.Placement.held placement.now) (P.Homes.asked placement.now)) (station_state self.old) bytes.now).after }
+        ensures answer { result ≡ (receive_rule V.kind (placed (P.Placement.count placement.now) (P.Placement.size placement.now) (P.Placement.held placement.now) (P.Homes.asked placement.now)) (station_state self.old) bytes.now).answer }
+        ensures after { station_state self.new ≡ (receive_rule V.kind (placed (P.Placement.count placement.now) (P.Placement.size placement.now) (P.Placement.held placement.now) (P.Homes.asked placement.now)) (station_state self.old) bytes.now).after }
         ensures session { self.new.session ≡ self.old.session }
     {
         self.site.receive::<V, P>(
@@ -37,8 +37,8 @@ impl Station {
     }
 
     pub fn apply<V: ValueKind + Drop, P: Homes>(&mut self, placement: &P) -> Result<Applied, Fault>
-        ensures answer { result ≡ (apply_rule kind (placed (P.Placement.count placement.now) (P.Placement.size placement.now) (P.Placement.held placement.now) (P.Homes.asked placement.now)) (station_state self.old)).answer }
-        ensures after { station_state self.new ≡ (apply_rule kind (placed (P.Placement.count placement.now) (P.Placement.size placement.now) (P.Placement.held placement.now) (P.Homes.asked placement.now)) (station_state self.old)).after }
+        ensures answer { result ≡ (apply_rule V.kind (placed (P.Placement.count placement.now) (P.Placement.size placement.now) (P.Placement.held placement.now) (P.Homes.asked placement.now)) (station_state self.old)).answer }
+        ensures after { station_state self.new ≡ (apply_rule V.kind (placed (P.Placement.count placement.now) (P.Placement.size placement.now) (P.Placement.held placement.now) (P.Homes.asked placement.now)) (station_state self.old)).after }
         ensures session { self.new.session ≡ self.old.session }
     {
         self.site.apply::<V, P>(
@@ -56,9 +56,9 @@ impl Station {
         value: V,
         place: &mut [u8],
     ) -> Result<Written, Fault>
-        ensures answer { result ≡ (idle_first self.old.session (λ z. write_rule kind (placed (P.Placement.count placement.now) (P.Placement.size placement.now) (P.Placement.held placement.now) (P.Homes.asked placement.now)) (station_state self.old) z r value place.old) (station_state self.old) place.old).answer }
-        ensures after { station_state self.new ≡ (idle_first self.old.session (λ z. write_rule kind (placed (P.Placement.count placement.now) (P.Placement.size placement.now) (P.Placement.held placement.now) (P.Homes.asked placement.now)) (station_state self.old) z r value place.old) (station_state self.old) place.old).after }
-        ensures place { place.new ≡ (idle_first self.old.session (λ z. write_rule kind (placed (P.Placement.count placement.now) (P.Placement.size placement.now) (P.Placement.held placement.now) (P.Homes.asked placement.now)) (station_state self.old) z r value place.old) (station_state self.old) place.old).place }
+        ensures answer { result ≡ (idle_first self.old.session (λ z. write_rule V.kind (placed (P.Placement.count placement.now) (P.Placement.size placement.now) (P.Placement.held placement.now) (P.Homes.asked placement.now)) (station_state self.old) z r value place.old) (station_state self.old) place.old).answer }
+        ensures after { station_state self.new ≡ (idle_first self.old.session (λ z. write_rule V.kind (placed (P.Placement.count placement.now) (P.Placement.size placement.now) (P.Placement.held placement.now) (P.Homes.asked placement.now)) (station_state self.old) z r value place.old) (station_state self.old) place.old).after }
+        ensures place { place.new ≡ (idle_first self.old.session (λ z. write_rule V.kind (placed (P.Placement.count placement.now) (P.Placement.size placement.now) (P.Placement.held placement.now) (P.Homes.asked placement.now)) (station_state self.old) z r value place.old) (station_state self.old) place.old).place }
         ensures session { self.new.session ≡ self.old.session }
     {
         match replace(&mut self.session, Held::Away) {

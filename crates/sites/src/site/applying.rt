@@ -23,8 +23,8 @@ impl Site {
         updates: &mut [WaitingUpdate],
         fetches: &[WaitingFetch],
     ) -> Result<Applied, Fault>
-        ensures answer { result ≡ (apply_rule kind (placed (P.Placement.count placement.now) (P.Placement.size placement.now) (P.Placement.held placement.now) (P.Homes.asked placement.now)) (state_of self.old copies.old updates.old fetches.now)).answer }
-        ensures after { state_of self.new copies.new updates.new fetches.now ≡ (apply_rule kind (placed (P.Placement.count placement.now) (P.Placement.size placement.now) (P.Placement.held placement.now) (P.Homes.asked placement.now)) (state_of self.old copies.old updates.old fetches.now)).after }
+        ensures answer { result ≡ (apply_rule V.kind (placed (P.Placement.count placement.now) (P.Placement.size placement.now) (P.Placement.held placement.now) (P.Homes.asked placement.now)) (state_of self.old copies.old updates.old fetches.now)).answer }
+        ensures after { state_of self.new copies.new updates.new fetches.now ≡ (apply_rule V.kind (placed (P.Placement.count placement.now) (P.Placement.size placement.now) (P.Placement.held placement.now) (P.Homes.asked placement.now)) (state_of self.old copies.old updates.old fetches.now)).after }
     {
         if !self.fits(placement, copies, updates, fetches) {
             return Err(Fault::of_site(Refusal::OtherTables));

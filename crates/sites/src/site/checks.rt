@@ -76,7 +76,7 @@ impl Site {
     // Does no waiting update hold a number out of range?
     pub fn updates_ok<V: ValueKind + Drop>(&self, updates: &[WaitingUpdate]) -> bool
         requires { length updates.now ≡ self.now.update_places }
-        ensures { result ≡ updates_ok kind (state_of self.now [] updates.now []) }
+        ensures { result ≡ updates_ok V.kind (state_of self.now [] updates.now []) }
     {
         updates_ok::<V>(
             updates,

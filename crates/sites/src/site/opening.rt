@@ -31,7 +31,7 @@ impl Site {
         updates: &[WaitingUpdate],
         fetches: &[WaitingFetch],
     ) -> Result<(Site, Idle), Fault>
-        ensures { Opens (open_rule kind (placed (P.Placement.count placement.now) (P.Placement.size placement.now) (P.Placement.held placement.now) (P.Homes.asked placement.now)) site update_places fetch_places (lent copies.old updates.now fetches.now)) result copies.new updates.now fetches.now }
+        ensures { Opens (open_rule V.kind (placed (P.Placement.count placement.now) (P.Placement.size placement.now) (P.Placement.held placement.now) (P.Homes.asked placement.now)) site update_places fetch_places (lent copies.old updates.now fetches.now)) result copies.new updates.now fetches.now }
     {
         let sites = placement.sites();
         let registers = placement.registers();

@@ -27,8 +27,8 @@ impl Site {
         r: u16,
     ) -> (Idle, Result<Read<V>, Fault>)
         ensures session { result.0 ≡ session }
-        ensures answer { result.1 ≡ (read_rule kind (placed (P.Placement.count placement.now) (P.Placement.size placement.now) (P.Placement.held placement.now) (P.Homes.asked placement.now)) (state_of self.old copies.now updates.now fetches.now) (idle session) r).answer }
-        ensures after { state_of self.new copies.now updates.now fetches.now ≡ (read_rule kind (placed (P.Placement.count placement.now) (P.Placement.size placement.now) (P.Placement.held placement.now) (P.Homes.asked placement.now)) (state_of self.old copies.now updates.now fetches.now) (idle session) r).after }
+        ensures answer { result.1 ≡ (read_rule V.kind (placed (P.Placement.count placement.now) (P.Placement.size placement.now) (P.Placement.held placement.now) (P.Homes.asked placement.now)) (state_of self.old copies.now updates.now fetches.now) (idle session) r).answer }
+        ensures after { state_of self.new copies.now updates.now fetches.now ≡ (read_rule V.kind (placed (P.Placement.count placement.now) (P.Placement.size placement.now) (P.Placement.held placement.now) (P.Homes.asked placement.now)) (state_of self.old copies.now updates.now fetches.now) (idle session) r).after }
     {
         let answer = self.try_read::<V, P>(placement, copies, updates, fetches, &session, r);
         (session, answer)
@@ -43,8 +43,8 @@ impl Site {
         session: &Idle,
         r: u16,
     ) -> Result<Read<V>, Fault>
-        ensures answer { result ≡ (read_rule kind (placed (P.Placement.count placement.now) (P.Placement.size placement.now) (P.Placement.held placement.now) (P.Homes.asked placement.now)) (state_of self.old copies.now updates.now fetches.now) (idle session.now) r).answer }
-        ensures after { state_of self.new copies.now updates.now fetches.now ≡ (read_rule kind (placed (P.Placement.count placement.now) (P.Placement.size placement.now) (P.Placement.held placement.now) (P.Homes.asked placement.now)) (state_of self.old copies.now updates.now fetches.now) (idle session.now) r).after }
+        ensures answer { result ≡ (read_rule V.kind (placed (P.Placement.count placement.now) (P.Placement.size placement.now) (P.Placement.held placement.now) (P.Homes.asked placement.now)) (state_of self.old copies.now updates.now fetches.now) (idle session.now) r).answer }
+        ensures after { state_of self.new copies.now updates.now fetches.now ≡ (read_rule V.kind (placed (P.Placement.count placement.now) (P.Placement.size placement.now) (P.Placement.held placement.now) (P.Homes.asked placement.now)) (state_of self.old copies.now updates.now fetches.now) (idle session.now) r).after }
     {
         if !self.fits(placement, copies, updates, fetches) {
             return Err(Fault::of_site(Refusal::OtherTables));
@@ -69,7 +69,7 @@ impl Site {
     // Does the copy of a register that is held here hold no number out of range? Where it is not held, no copy is read.
     fn copy_judged<V: ValueKind + Drop>(&self, copies: &[Replica], r: u16, held: bool) -> bool
         requires { held ≡ true → r < length copies.now }
-        ensures { result ≡ (not held || copy_ok kind (numbered 0 self.now.sites 0) (slice_index_or copies.now r no_copy)) }
+        ensures { result ≡ (not held || copy_ok V.kind (numbered 0 self.now.sites 0) (slice_index_or copies.now r no_copy)) }
     {
         !held || copy_ok::<V>(&copies[r as usize], self.sites)
     }

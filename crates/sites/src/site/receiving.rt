@@ -31,8 +31,8 @@ impl Site {
         fetches: &mut [WaitingFetch],
         bytes: &[u8],
     ) -> Result<(), Fault>
-        ensures answer { result ≡ (receive_rule kind (placed (P.Placement.count placement.now) (P.Placement.size placement.now) (P.Placement.held placement.now) (P.Homes.asked placement.now)) (state_of self.old copies.now updates.old fetches.old) bytes.now).answer }
-        ensures after { state_of self.new copies.now updates.new fetches.new ≡ (receive_rule kind (placed (P.Placement.count placement.now) (P.Placement.size placement.now) (P.Placement.held placement.now) (P.Homes.asked placement.now)) (state_of self.old copies.now updates.old fetches.old) bytes.now).after }
+        ensures answer { result ≡ (receive_rule V.kind (placed (P.Placement.count placement.now) (P.Placement.size placement.now) (P.Placement.held placement.now) (P.Homes.asked placement.now)) (state_of self.old copies.now updates.old fetches.old) bytes.now).answer }
+        ensures after { state_of self.new copies.now updates.new fetches.new ≡ (receive_rule V.kind (placed (P.Placement.count placement.now) (P.Placement.size placement.now) (P.Placement.held placement.now) (P.Homes.asked placement.now)) (state_of self.old copies.now updates.old fetches.old) bytes.now).after }
     {
         if !self.fits(placement, copies, updates, fetches) {
             return Err(Fault::of_site(Refusal::OtherTables));
@@ -59,8 +59,8 @@ impl Site {
         requires placement_value { P.Placement.count placement.now ≡ self.old.sites }
         requires updates_len { length updates.old ≡ self.old.update_places }
         requires sender_lt_sites { update.sender < update.sites }
-        ensures answer { (copies : List CopyItem) (fetches : List FetchItem) → result ≡ (received kind (placed (P.Placement.count placement.now) (P.Placement.size placement.now) (P.Placement.held placement.now) (P.Homes.asked placement.now)) (state_of self.old copies updates.old fetches) (OfUpdate update)).answer }
-        ensures after { (copies : List CopyItem) (fetches : List FetchItem) → state_of self.new copies updates.new fetches ≡ (received kind (placed (P.Placement.count placement.now) (P.Placement.size placement.now) (P.Placement.held placement.now) (P.Homes.asked placement.now)) (state_of self.old copies updates.old fetches) (OfUpdate update)).after }
+        ensures answer { (copies : List CopyItem) (fetches : List FetchItem) → result ≡ (received V.kind (placed (P.Placement.count placement.now) (P.Placement.size placement.now) (P.Placement.held placement.now) (P.Homes.asked placement.now)) (state_of self.old copies updates.old fetches) (OfUpdate update)).answer }
+        ensures after { (copies : List CopyItem) (fetches : List FetchItem) → state_of self.new copies updates.new fetches ≡ (received V.kind (placed (P.Placement.count placement.now) (P.Placement.size placement.now) (P.Placement.held placement.now) (P.Homes.asked placement.now)) (state_of self.old copies updates.old fetches) (OfUpdate update)).after }
     {
         if !self.update_for_here(placement, &update) {
             return Err(Fault::of_site(Refusal::NotForThisSite));
@@ -90,8 +90,8 @@ impl Site {
     ) -> Result<(), Fault>
         requires placement_value { P.Placement.count placement.now ≡ self.old.sites }
         requires fetches_len { length fetches.old ≡ self.old.fetch_places }
-        ensures answer { (copies : List CopyItem) (updates : List UpdateItem) → result ≡ (received kind (placed (P.Placement.count placement.now) (P.Placement.size placement.now) (P.Placement.held placement.now) (P.Homes.asked placement.now)) (state_of self.old copies updates fetches.old) (OfFetch fetch.now)).answer }
-        ensures after { (copies : List CopyItem) (updates : List UpdateItem) → state_of self.new copies updates fetches.new ≡ (received kind (placed (P.Placement.count placement.now) (P.Placement.size placement.now) (P.Placement.held placement.now) (P.Homes.asked placement.now)) (state_of self.old copies updates fetches.old) (OfFetch fetch.now)).after }
+        ensures answer { (copies : List CopyItem) (updates : List UpdateItem) → result ≡ (received V.kind (placed (P.Placement.count placement.now) (P.Placement.size placement.now) (P.Placement.held placement.now) (P.Homes.asked placement.now)) (state_of self.old copies updates fetches.old) (OfFetch fetch.now)).answer }
+        ensures after { (copies : List CopyItem) (updates : List UpdateItem) → state_of self.new copies updates fetches.new ≡ (received V.kind (placed (P.Placement.count placement.now) (P.Placement.size placement.now) (P.Placement.held placement.now) (P.Homes.asked placement.now)) (state_of self.old copies updates fetches.old) (OfFetch fetch.now)).after }
     {
         if !self.fetch_for_here(placement, fetch) {
             return Err(Fault::of_site(Refusal::NotForThisSite));

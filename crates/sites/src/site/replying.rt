@@ -29,8 +29,8 @@ impl Site {
         session: Awaiting,
         bytes: &[u8],
     ) -> Result<(Idle, Read<V>), (Awaiting, Fault)>
-        ensures answer { result ≡ taken_over session (take_rule kind (placed (P.Placement.count placement.now) (P.Placement.size placement.now) (P.Placement.held placement.now) (P.Homes.asked placement.now)) (state_of self.old copies.now updates.now fetches.now) (awaiting session) bytes.now).answer }
-        ensures after { state_of self.new copies.now updates.now fetches.now ≡ (take_rule kind (placed (P.Placement.count placement.now) (P.Placement.size placement.now) (P.Placement.held placement.now) (P.Homes.asked placement.now)) (state_of self.old copies.now updates.now fetches.now) (awaiting session) bytes.now).after }
+        ensures answer { result ≡ taken_over session (take_rule V.kind (placed (P.Placement.count placement.now) (P.Placement.size placement.now) (P.Placement.held placement.now) (P.Homes.asked placement.now)) (state_of self.old copies.now updates.now fetches.now) (awaiting session) bytes.now).answer }
+        ensures after { state_of self.new copies.now updates.now fetches.now ≡ (take_rule V.kind (placed (P.Placement.count placement.now) (P.Placement.size placement.now) (P.Placement.held placement.now) (P.Homes.asked placement.now)) (state_of self.old copies.now updates.now fetches.now) (awaiting session) bytes.now).after }
     {
         match self.try_take::<V, P>(placement, copies, updates, fetches, &session, bytes) {
             Ok(read) => {
@@ -50,8 +50,8 @@ impl Site {
         session: &Awaiting,
         bytes: &[u8],
     ) -> Result<Read<V>, Fault>
-        ensures answer { result ≡ (take_rule kind (placed (P.Placement.count placement.now) (P.Placement.size placement.now) (P.Placement.held placement.now) (P.Homes.asked placement.now)) (state_of self.old copies.now updates.now fetches.now) (awaiting session.now) bytes.now).answer }
-        ensures after { state_of self.new copies.now updates.now fetches.now ≡ (take_rule kind (placed (P.Placement.count placement.now) (P.Placement.size placement.now) (P.Placement.held placement.now) (P.Homes.asked placement.now)) (state_of self.old copies.now updates.now fetches.now) (awaiting session.now) bytes.now).after }
+        ensures answer { result ≡ (take_rule V.kind (placed (P.Placement.count placement.now) (P.Placement.size placement.now) (P.Placement.held placement.now) (P.Homes.asked placement.now)) (state_of self.old copies.now updates.now fetches.now) (awaiting session.now) bytes.now).answer }
+        ensures after { state_of self.new copies.now updates.now fetches.now ≡ (take_rule V.kind (placed (P.Placement.count placement.now) (P.Placement.size placement.now) (P.Placement.held placement.now) (P.Homes.asked placement.now)) (state_of self.old copies.now updates.now fetches.now) (awaiting session.now) bytes.now).after }
     {
         if !self.fits(placement, copies, updates, fetches) {
             return Err(Fault::of_site(Refusal::OtherTables));

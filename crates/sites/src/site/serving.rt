@@ -27,9 +27,9 @@ impl Site {
         fetches: &mut [WaitingFetch],
         place: &mut [u8],
     ) -> Result<Served, Fault>
-        ensures answer { result ≡ (serve_rule kind (placed (P.Placement.count placement.now) (P.Placement.size placement.now) (P.Placement.held placement.now) (P.Homes.asked placement.now)) (state_of self.old copies.now updates.now fetches.old) place.old).answer }
-        ensures after { state_of self.new copies.now updates.now fetches.new ≡ (serve_rule kind (placed (P.Placement.count placement.now) (P.Placement.size placement.now) (P.Placement.held placement.now) (P.Homes.asked placement.now)) (state_of self.old copies.now updates.now fetches.old) place.old).after }
-        ensures place { place.new ≡ (serve_rule kind (placed (P.Placement.count placement.now) (P.Placement.size placement.now) (P.Placement.held placement.now) (P.Homes.asked placement.now)) (state_of self.old copies.now updates.now fetches.old) place.old).place }
+        ensures answer { result ≡ (serve_rule V.kind (placed (P.Placement.count placement.now) (P.Placement.size placement.now) (P.Placement.held placement.now) (P.Homes.asked placement.now)) (state_of self.old copies.now updates.now fetches.old) place.old).answer }
+        ensures after { state_of self.new copies.now updates.now fetches.new ≡ (serve_rule V.kind (placed (P.Placement.count placement.now) (P.Placement.size placement.now) (P.Placement.held placement.now) (P.Homes.asked placement.now)) (state_of self.old copies.now updates.now fetches.old) place.old).after }
+        ensures place { place.new ≡ (serve_rule V.kind (placed (P.Placement.count placement.now) (P.Placement.size placement.now) (P.Placement.held placement.now) (P.Homes.asked placement.now)) (state_of self.old copies.now updates.now fetches.old) place.old).place }
     {
         if !self.fits(placement, copies, updates, fetches) {
             return Err(Fault::of_site(Refusal::OtherTables));
@@ -54,9 +54,9 @@ impl Site {
         requires index_bound { index < self.old.fetches_waiting }
         requires fetches_len { length fetches.old ≡ self.old.fetch_places }
         requires no_fetch_in_bounds { (get_or fetches.old index no_fetch).register < length copies.now }
-        ensures answer { (updates : List UpdateItem) → result ≡ (served_at kind (state_of self.old copies.now updates fetches.old) place.old index (slice_index_or fetches.old index no_fetch)).answer }
-        ensures after { (updates : List UpdateItem) → state_of self.new copies.now updates fetches.new ≡ (served_at kind (state_of self.old copies.now updates fetches.old) place.old index (slice_index_or fetches.old index no_fetch)).after }
-        ensures place { (updates : List UpdateItem) → place.new ≡ (served_at kind (state_of self.old copies.now updates fetches.old) place.old index (slice_index_or fetches.old index no_fetch)).place }
+        ensures answer { (updates : List UpdateItem) → result ≡ (served_at V.kind (state_of self.old copies.now updates fetches.old) place.old index (slice_index_or fetches.old index no_fetch)).answer }
+        ensures after { (updates : List UpdateItem) → state_of self.new copies.now updates fetches.new ≡ (served_at V.kind (state_of self.old copies.now updates fetches.old) place.old index (slice_index_or fetches.old index no_fetch)).after }
+        ensures place { (updates : List UpdateItem) → place.new ≡ (served_at V.kind (state_of self.old copies.now updates fetches.old) place.old index (slice_index_or fetches.old index no_fetch)).place }
     {
         let fetch = fetches[index];
         let length = self.reply::<V>(&copies[fetch.register as usize], &fetch, place)?;
@@ -75,8 +75,8 @@ impl Site {
         fetch: &WaitingFetch,
         place: &mut [u8],
     ) -> Result<usize, Fault>
-        ensures answer { result ≡ replies kind (state_of self.now [] [] []) copy.now (length place.old) }
-        ensures place { place.new ≡ replied_in kind (state_of self.now [] [] []) copy.now fetch.now place.old }
+        ensures answer { result ≡ replies V.kind (state_of self.now [] [] []) copy.now (length place.old) }
+        ensures place { place.new ≡ replied_in V.kind (state_of self.now [] [] []) copy.now fetch.now place.old }
     {
         if !copy_ok::<V>(copy, self.sites) {
             return Err(Fault::of_site(Refusal::OtherTables));

@@ -38,9 +38,9 @@ impl Site {
         place: &mut [u8],
     ) -> (Idle, Result<Written, Fault>)
         ensures session { result.0 ≡ session }
-        ensures answer { result.1 ≡ (write_rule kind (placed (P.Placement.count placement.now) (P.Placement.size placement.now) (P.Placement.held placement.now) (P.Homes.asked placement.now)) (state_of self.old copies.old updates.now fetches.now) (idle session) r value place.old).answer }
-        ensures after { state_of self.new copies.new updates.now fetches.now ≡ (write_rule kind (placed (P.Placement.count placement.now) (P.Placement.size placement.now) (P.Placement.held placement.now) (P.Homes.asked placement.now)) (state_of self.old copies.old updates.now fetches.now) (idle session) r value place.old).after }
-        ensures place { place.new ≡ (write_rule kind (placed (P.Placement.count placement.now) (P.Placement.size placement.now) (P.Placement.held placement.now) (P.Homes.asked placement.now)) (state_of self.old copies.old updates.now fetches.now) (idle session) r value place.old).place }
+        ensures answer { result.1 ≡ (write_rule V.kind (placed (P.Placement.count placement.now) (P.Placement.size placement.now) (P.Placement.held placement.now) (P.Homes.asked placement.now)) (state_of self.old copies.old updates.now fetches.now) (idle session) r value place.old).answer }
+        ensures after { state_of self.new copies.new updates.now fetches.now ≡ (write_rule V.kind (placed (P.Placement.count placement.now) (P.Placement.size placement.now) (P.Placement.held placement.now) (P.Homes.asked placement.now)) (state_of self.old copies.old updates.now fetches.now) (idle session) r value place.old).after }
+        ensures place { place.new ≡ (write_rule V.kind (placed (P.Placement.count placement.now) (P.Placement.size placement.now) (P.Placement.held placement.now) (P.Homes.asked placement.now)) (state_of self.old copies.old updates.now fetches.now) (idle session) r value place.old).place }
     {
         let answer = self.try_write(
             placement, copies, updates, fetches, &session, r, value, place,
@@ -59,9 +59,9 @@ impl Site {
         value: V,
         place: &mut [u8],
     ) -> Result<Written, Fault>
-        ensures answer { result ≡ (write_rule kind (placed (P.Placement.count placement.now) (P.Placement.size placement.now) (P.Placement.held placement.now) (P.Homes.asked placement.now)) (state_of self.old copies.old updates.now fetches.now) (idle session.now) r value place.old).answer }
-        ensures after { state_of self.new copies.new updates.now fetches.now ≡ (write_rule kind (placed (P.Placement.count placement.now) (P.Placement.size placement.now) (P.Placement.held placement.now) (P.Homes.asked placement.now)) (state_of self.old copies.old updates.now fetches.now) (idle session.now) r value place.old).after }
-        ensures place { place.new ≡ (write_rule kind (placed (P.Placement.count placement.now) (P.Placement.size placement.now) (P.Placement.held placement.now) (P.Homes.asked placement.now)) (state_of self.old copies.old updates.now fetches.now) (idle session.now) r value place.old).place }
+        ensures answer { result ≡ (write_rule V.kind (placed (P.Placement.count placement.now) (P.Placement.size placement.now) (P.Placement.held placement.now) (P.Homes.asked placement.now)) (state_of self.old copies.old updates.now fetches.now) (idle session.now) r value place.old).answer }
+        ensures after { state_of self.new copies.new updates.now fetches.now ≡ (write_rule V.kind (placed (P.Placement.count placement.now) (P.Placement.size placement.now) (P.Placement.held placement.now) (P.Homes.asked placement.now)) (state_of self.old copies.old updates.now fetches.now) (idle session.now) r value place.old).after }
+        ensures place { place.new ≡ (write_rule V.kind (placed (P.Placement.count placement.now) (P.Placement.size placement.now) (P.Placement.held placement.now) (P.Homes.asked placement.now)) (state_of self.old copies.old updates.now fetches.now) (idle session.now) r value place.old).place }
     {
         if !self.fits(placement, copies, updates, fetches) {
             return Err(Fault::of_site(Refusal::OtherTables));
@@ -104,8 +104,8 @@ impl Site {
         place: &mut [u8],
     ) -> Result<usize, Fault>
         requires { self.now.written < limit }
-        ensures answer { result ≡ (if eqb others 0 then Answered 0 else write_answer (update_size kind (state_of self.now [] [] [])) (length place.old)) }
-        ensures place { place.new ≡ (if eqb others 0 then place.old else write_place (update_size kind (state_of self.now [] [] [])) (update_frame kind (record { sites = self.now.sites; sender = self.now.site; register = r; number = self.now.written + 1; matrix = matrix.now; value = value })) place.old) }
+        ensures answer { result ≡ (if eqb others 0 then Answered 0 else write_answer (update_size V.kind (state_of self.now [] [] [])) (length place.old)) }
+        ensures place { place.new ≡ (if eqb others 0 then place.old else write_place (update_size V.kind (state_of self.now [] [] [])) (update_frame V.kind (record { sites = self.now.sites; sender = self.now.site; register = r; number = self.now.written + 1; matrix = matrix.now; value = value })) place.old) }
     {
         if others == 0 {
             return Ok(0);

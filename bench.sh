@@ -3,8 +3,8 @@
 set -eu
 top=$(cd "$(dirname "$0")" && pwd)
 script=$(realpath "${1:-$top/crates/bench/stdin}")
-cd "$top"
+cd "$top/crates/bench"
 log=$(mktemp)
 trap 'rm -f "$log"' EXIT
-rt check bench >"$log" 2>&1 || { cat "$log" >&2; exit 1; }
-./target/bin/bench <"$script"
+# the program prints to standard output, and rt what it says of the proof to standard error
+rt run <"$script" 2>"$log" || { cat "$log" >&2; exit 1; }

@@ -10,7 +10,6 @@ import os
 import re
 import sys
 
-STOP = " \t\n(){}[];,.«»|"
 TOKEN = re.compile(r"[^\s(){}\[\];,.«»|]+")
 HEAD = re.compile(r"^(?P<in>\s*)(?:(?:abbrev|unfoldable|pub|private|data|record)\s+)*(?P<name>[^\s(){}\[\];,.:=«»|]+)(?=[\s(:{])(?P<rest>.*)$")
 LIBRARY = re.compile(r"^\s*(?:ghost )?use (Rattle\.std|native|borrow|denote|mathlib|lib|Prim|base|logic)[.\w']*\.\{([^}]*)\}")

@@ -9,8 +9,7 @@ use Rattle.values.specs.declared.fault.Fault.{Fault}
 use Rattle.values.specs.declared.fault.Refusal.TheVariants.{OtherTables, HeldHere, CountAtLimit, NoRoom}
 use Rattle.protocol.specs.States.{Placed, State, Session, Outcome, refuse, need}
 use Rattle.protocol.specs.Words.{bound_for, fits}
-use Rattle.protocol.specs.Fetching.{fetch_rule, fetch_sent, fetch_size, awaiting}
-use Rattle.protocol.specs.declared.answers.Begun.{Begun}
+use Rattle.protocol.specs.Fetching.{Begun, fetch_rule, fetch_sent, fetch_size, awaiting}
 use Rattle.sites.specs.Tests.{idle_here}
 use Rattle.sites.proofs.Outcomes.{passed, failed, idle_passed, idle_failed}
 

@@ -1,7 +1,7 @@
 -- What is known where the tables fit, and how code and rules ask whether a register is held here.
-use Rattle.std.proofs.Common.{◌≡◌, ℕ, ◌<◌, ◌≤◌, Bool, true, false, eqb, length, sym, ap, ◌∙◌, ⊎_elim, arith}
+use Rattle.std.proofs.Common.{◌≡◌, ℕ, ◌<◌, ◌≤◌, Bool, true, false, length, sym, ap, ◌∙◌, ⊎_elim, arith}
 use Rattle.std.proofs.lemmas.Bool.{and_parts, eqb-true, both_ways, cases_lt}
-use Rattle.clocks.specs.Sites.{has, told}
+use Rattle.clocks.specs.Sites.{has}
 use Rattle.clocks.proofs.SiteLaws.{has_told}
 use Rattle.protocol.specs.States.{Placed, State}
 use Rattle.protocol.specs.Words.{fits, holders, bound_for}

@@ -3,8 +3,6 @@ use Rattle.std.proofs.Common.{◌≡◌, ℕ, ◌<◌, ◌≤◌, Bool, true, Li
 use Rattle.std.proofs.lemmas.List.{length-take-le, get_or-take}
 use Rattle.std.proofs.lemmas.Bool.{and_parts, ltb-true}
 use Rattle.waiting.specs.Queues.{first_where}
-use Rattle.waiting.specs.declared.items.WaitingFetch.{WaitingFetch}
-use Rattle.waiting.specs.declared.items.WaitingUpdate.{WaitingUpdate}
 use Rattle.waiting.proofs.QueueLaws.{first_within}
 use Rattle.values.specs.Kinds.{Kind}
 use Rattle.protocol.specs.States.{State}

@@ -4,7 +4,7 @@ use Rattle.std.specs.List.{AllByRecursion}
 use Rattle.std.proofs.ByRecursion.{All-get_or}
 use Rattle.std.proofs.lemmas.List.{get_or-take, length-take-le}
 use Rattle.std.proofs.lemmas.Bool.{and_parts, eqb-true}
-use Rattle.clocks.specs.Counts.{limit, within}
+use Rattle.clocks.specs.Counts.{within}
 use Rattle.clocks.specs.Matrices.{merged}
 use Rattle.clocks.proofs.CountLaws.{zeros_at, within_from}
 use Rattle.clocks.proofs.MatrixLaws.{merged_within}

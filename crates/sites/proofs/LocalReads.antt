@@ -7,8 +7,7 @@ use Rattle.values.specs.declared.fault.Fault.{Fault}
 use Rattle.values.specs.declared.fault.Refusal.TheVariants.{OtherTables, NotHeldHere}
 use Rattle.protocol.specs.States.{Placed, State, Session, Outcome, refuse, need, given}
 use Rattle.protocol.specs.Words.{bound_for, fits, copy_of}
-use Rattle.protocol.specs.Reading.{value_of, merged_with, copy_read_ok, read_rule}
-use Rattle.protocol.specs.declared.answers.Read.{Read}
+use Rattle.protocol.specs.Reading.{Read, value_of, merged_with, copy_read_ok, read_rule}
 use Rattle.sites.specs.Tests.{idle_here}
 use Rattle.sites.proofs.Outcomes.{passed, failed, gave, gave_none, idle_passed, idle_failed}
 

@@ -1,5 +1,5 @@
 -- Receiving: what is pushed onto a list is put last, or refused where every place is taken.
-use Rattle.std.proofs.Common.{◌≡◌, ℕ, ◌+◌, ◌<◌, ◌≤◌, min, Bool, true, false, ◌&&◌, ltb, List, [], length, set, Ok, Err, refl, ap, ◌∙◌, ⊎_elim, arith}
+use Rattle.std.proofs.Common.{◌≡◌, ℕ, ◌+◌, ◌≤◌, min, Bool, true, false, ◌&&◌, ltb, List, [], length, set, Ok, refl, ap, ◌∙◌, ⊎_elim, arith}
 use Rattle.std.proofs.lemmas.List.{set_past}
 use Rattle.std.proofs.lemmas.Bool.{and_from, cases_Bool, ltb-true, ltb-false, cond-true, cond-false}
 use Rattle.frames.specs.Reading.{incoming_read}
@@ -8,7 +8,6 @@ use Rattle.frames.specs.declared.incoming.Incoming.TheVariants.{OfUpdate, OfFetc
 use Rattle.frames.specs.declared.message.Fetch.{Fetch}
 use Rattle.frames.specs.declared.message.Update.{Update}
 use Rattle.values.specs.Kinds.{Kind}
-use Rattle.values.specs.Refusals.{of_site}
 use Rattle.values.specs.declared.fault.Refusal.TheVariants.{OtherTables, NotForThisSite, KnownAlready, ListIsFull}
 use Rattle.waiting.specs.Queues.{push_answer}
 use Rattle.waiting.specs.declared.items.WaitingFetch.{WaitingFetch}

@@ -1,10 +1,9 @@
 -- Serving a fetch: the copy is judged, its value read, and the reply must fit.
-use Rattle.std.proofs.Common.{◌≡◌, ℕ, ◌-◌, Bool, true, false, ◌&&◌, leb, List, length, get_or, Some, Ok, Err, Option, Result, sym, refl, ap, ◌∙◌}
+use Rattle.std.proofs.Common.{◌≡◌, ℕ, ◌-◌, Bool, true, false, ◌&&◌, leb, List, length, get_or, Some, Ok, Err, Result, sym, refl, ap, ◌∙◌}
 use Rattle.std.proofs.lemmas.Bool.{and_from, lt-leb}
 use Rattle.frames.specs.Messages.{reply_frame}
 use Rattle.frames.specs.Writing.{write_place}
 use Rattle.values.specs.Kinds.{Kind}
-use Rattle.values.specs.Refusals.{of_site}
 use Rattle.values.specs.declared.fault.Fault.{Fault}
 use Rattle.values.specs.declared.fault.Refusal.TheVariants.{OtherTables, NoRoom}
 use Rattle.waiting.specs.Queues.{first_where, closed_up}
@@ -14,8 +13,7 @@ use Rattle.protocol.specs.States.{Placed, State, Outcome, refuse, need, given}
 use Rattle.protocol.specs.Words.{fits, fetches_ok, waiting_fetches, copy_of, copy_ok}
 use Rattle.protocol.specs.Reading.{value_of}
 use Rattle.protocol.specs.Receiving.{with_lists}
-use Rattle.protocol.specs.Serving.{no_fetch, ready_fetch, reply_sent, reply_size, served_at, serve_first, serve_rule}
-use Rattle.protocol.specs.declared.answers.Served.{Served}
+use Rattle.protocol.specs.Serving.{Served, no_fetch, ready_fetch, reply_sent, reply_size, served_at, serve_first, serve_rule}
 use Rattle.sites.specs.Replies.{valued, replies, judged_in, replied_in}
 use Rattle.sites.specs.Tests.{test}
 use Rattle.sites.proofs.Outcomes.{passed, failed, cramped, place_kept}

@@ -1,5 +1,5 @@
 -- Writing a register, test by test.
-use Rattle.std.proofs.Common.{◌≡◌, ℕ, ◌+◌, ◌<◌, ◌≤◌, Bool, true, false, cond, not, ◌&&◌, ◌||◌, eqb, ltb, leb, List, length, get_or, Ok, Err, Result, sym, ap, ◌∙◌, ⊎_elim, arith}
+use Rattle.std.proofs.Common.{◌≡◌, ℕ, ◌+◌, ◌<◌, true, false, cond, not, ◌&&◌, ◌||◌, eqb, ltb, leb, List, length, get_or, Ok, Err, Result, sym, ap, ◌∙◌, ⊎_elim, arith}
 use Rattle.std.proofs.lemmas.Bool.{and_parts, cases_Bool, eqb-true, le-leb, lt-leb, ltb-true, cond-true, cond-false}
 use Rattle.clocks.specs.Counts.{limit}
 use Rattle.clocks.specs.Matrices.{room}
@@ -12,9 +12,8 @@ use Rattle.values.specs.Refusals.{of_site}
 use Rattle.values.specs.declared.fault.Fault.{Fault}
 use Rattle.values.specs.declared.fault.Refusal.TheVariants.{OtherTables, CountAtLimit, NoRoom}
 use Rattle.protocol.specs.States.{Placed, State, Session, Outcome, refuse, need}
-use Rattle.protocol.specs.Words.{bound_for, holders, others, fits}
-use Rattle.protocol.specs.Writing.{can_write, update_sent, after_write, update_size, written_to, write_rule}
-use Rattle.protocol.specs.declared.answers.Written.{Written}
+use Rattle.protocol.specs.Words.{holders, others, fits}
+use Rattle.protocol.specs.Writing.{Written, can_write, update_sent, after_write, update_size, written_to, write_rule}
 use Rattle.sites.specs.Tests.{idle_here}
 use Rattle.sites.specs.Written.{room_for}
 use Rattle.sites.proofs.Outcomes.{passed, failed, idle_passed, idle_failed, cramped, roomy, place_kept}

@@ -1,3 +1,4 @@
+pub mod Answers
 pub mod Opened
 pub mod Replies
 pub mod States

@@ -3,6 +3,7 @@ ghost use Rattle.std.specs.Prelude.{◌≡◌, ◌<◌, List, length, get_or, sl
 ghost use Rattle.protocol.specs.Applying.{apply_rule, applied_at, no_update};
 ghost use Rattle.waiting.specs.declared.items.WaitingFetch.{WaitingFetch as FetchItem};
 ghost use Rattle.protocol.specs.States.{placed};
+ghost use Rattle.sites.specs.Answers.{told, applied_told};
 ghost use Rattle.sites.specs.States.{state_of};
 
 use crate::site::Site;
@@ -23,7 +24,7 @@ impl Site {
         updates: &mut [WaitingUpdate],
         fetches: &[WaitingFetch],
     ) -> Result<Applied, Fault>
-        ensures answer { result ≡ (apply_rule V.kind (placed (P.Placement.count placement.now) (P.Placement.size placement.now) (P.Placement.held placement.now) (P.Homes.asked placement.now)) (state_of self.old copies.old updates.old fetches.now)).answer }
+        ensures answer { result ≡ told applied_told (apply_rule V.kind (placed (P.Placement.count placement.now) (P.Placement.size placement.now) (P.Placement.held placement.now) (P.Homes.asked placement.now)) (state_of self.old copies.old updates.old fetches.now)).answer }
         ensures after { state_of self.new copies.new updates.new fetches.now ≡ (apply_rule V.kind (placed (P.Placement.count placement.now) (P.Placement.size placement.now) (P.Placement.held placement.now) (P.Homes.asked placement.now)) (state_of self.old copies.old updates.old fetches.now)).after }
     {
         if !self.fits(placement, copies, updates, fetches) {
@@ -45,11 +46,11 @@ impl Site {
         updates: &mut [WaitingUpdate],
         index: usize,
     ) -> Result<Applied, Fault>
-        requires index_bound { index < self.old.updates_waiting }
+        requires index_below { index < self.old.updates_waiting }
         requires updates_len { length updates.old ≡ self.old.update_places }
-        requires no_update_bound { (get_or updates.old index no_update).sender < self.old.sites }
-        requires no_update_in_bounds { (get_or updates.old index no_update).register < length copies.old }
-        ensures answer { (fetches : List FetchItem) → result ≡ (applied_at (state_of self.old copies.old updates.old fetches) index (slice_index_or updates.old index no_update)).answer }
+        requires sender_below { (get_or updates.old index no_update).sender < self.old.sites }
+        requires register_below { (get_or updates.old index no_update).register < length copies.old }
+        ensures answer { (fetches : List FetchItem) → result ≡ told applied_told (applied_at (state_of self.old copies.old updates.old fetches) index (slice_index_or updates.old index no_update)).answer }
         ensures after { (fetches : List FetchItem) → state_of self.new copies.new updates.new fetches ≡ (applied_at (state_of self.old copies.old updates.old fetches) index (slice_index_or updates.old index no_update)).after }
     {
         let sender = updates[index].sender;

@@ -3,6 +3,7 @@ ghost use Rattle.std.specs.Prelude.{◌≡◌, ◌<◌, OnOk};
 ghost use Rattle.clocks.specs.Counts.{limit};
 ghost use Rattle.protocol.specs.Fetching.{fetch_rule};
 ghost use Rattle.protocol.specs.States.{placed};
+ghost use Rattle.sites.specs.Answers.{told, begun_told};
 ghost use Rattle.sites.specs.States.{state_of, idle};
 ghost use Rattle.sites.specs.Tests.{handed};
 
@@ -28,7 +29,7 @@ impl Site {
         r: u16,
         place: &mut [u8],
     ) -> Result<(Awaiting, Begun), (Idle, Fault)>
-        ensures answer { result ≡ handed session (fetch_rule (placed (P.Placement.count placement.now) (P.Placement.size placement.now) (P.Placement.held placement.now) (P.Homes.asked placement.now)) (state_of self.old copies.now updates.now fetches.now) (idle session) r place.old).answer }
+        ensures answer { result ≡ handed session (told begun_told (fetch_rule (placed (P.Placement.count placement.now) (P.Placement.size placement.now) (P.Placement.held placement.now) (P.Homes.asked placement.now)) (state_of self.old copies.now updates.now fetches.now) (idle session) r place.old).answer) }
         ensures after { state_of self.new copies.now updates.now fetches.now ≡ (fetch_rule (placed (P.Placement.count placement.now) (P.Placement.size placement.now) (P.Placement.held placement.now) (P.Homes.asked placement.now)) (state_of self.old copies.now updates.now fetches.now) (idle session) r place.old).after }
         ensures place { place.new ≡ (fetch_rule (placed (P.Placement.count placement.now) (P.Placement.size placement.now) (P.Placement.held placement.now) (P.Homes.asked placement.now)) (state_of self.old copies.now updates.now fetches.now) (idle session) r place.old).place }
     {
@@ -57,7 +58,7 @@ impl Site {
         r: u16,
         place: &mut [u8],
     ) -> Result<Begun, Fault>
-        ensures answer { result ≡ (fetch_rule (placed (P.Placement.count placement.now) (P.Placement.size placement.now) (P.Placement.held placement.now) (P.Homes.asked placement.now)) (state_of self.old copies.now updates.now fetches.now) (idle session.now) r place.old).answer }
+        ensures answer { result ≡ told begun_told (fetch_rule (placed (P.Placement.count placement.now) (P.Placement.size placement.now) (P.Placement.held placement.now) (P.Homes.asked placement.now)) (state_of self.old copies.now updates.now fetches.now) (idle session.now) r place.old).answer }
         ensures after { state_of self.new copies.now updates.now fetches.now ≡ (fetch_rule (placed (P.Placement.count placement.now) (P.Placement.size placement.now) (P.Placement.held placement.now) (P.Homes.asked placement.now)) (state_of self.old copies.now updates.now fetches.now) (idle session.now) r place.old).after }
         ensures place { place.new ≡ (fetch_rule (placed (P.Placement.count placement.now) (P.Placement.size placement.now) (P.Placement.held placement.now) (P.Homes.asked placement.now)) (state_of self.old copies.now updates.now fetches.now) (idle session.now) r place.old).place }
         ensures below { OnOk result (session.now.fetched < limit) }

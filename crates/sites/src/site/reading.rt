@@ -3,6 +3,7 @@ ghost use Rattle.std.specs.Prelude.{◌≡◌, ◌<◌, true, not, ◌||◌, len
 ghost use Rattle.protocol.specs.Reading.{read_rule};
 ghost use Rattle.protocol.specs.States.{placed};
 ghost use Rattle.protocol.specs.Words.{copy_ok, no_copy};
+ghost use Rattle.sites.specs.Answers.{told, read_told};
 ghost use Rattle.sites.specs.States.{state_of, idle};
 ghost use Rattle.tables.specs.Judging.{numbered};
 
@@ -27,7 +28,7 @@ impl Site {
         r: u16,
     ) -> (Idle, Result<Read<V>, Fault>)
         ensures session { result.0 ≡ session }
-        ensures answer { result.1 ≡ (read_rule V.kind (placed (P.Placement.count placement.now) (P.Placement.size placement.now) (P.Placement.held placement.now) (P.Homes.asked placement.now)) (state_of self.old copies.now updates.now fetches.now) (idle session) r).answer }
+        ensures answer { result.1 ≡ told read_told (read_rule V.kind (placed (P.Placement.count placement.now) (P.Placement.size placement.now) (P.Placement.held placement.now) (P.Homes.asked placement.now)) (state_of self.old copies.now updates.now fetches.now) (idle session) r).answer }
         ensures after { state_of self.new copies.now updates.now fetches.now ≡ (read_rule V.kind (placed (P.Placement.count placement.now) (P.Placement.size placement.now) (P.Placement.held placement.now) (P.Homes.asked placement.now)) (state_of self.old copies.now updates.now fetches.now) (idle session) r).after }
     {
         let answer = self.try_read::<V, P>(placement, copies, updates, fetches, &session, r);
@@ -43,7 +44,7 @@ impl Site {
         session: &Idle,
         r: u16,
     ) -> Result<Read<V>, Fault>
-        ensures answer { result ≡ (read_rule V.kind (placed (P.Placement.count placement.now) (P.Placement.size placement.now) (P.Placement.held placement.now) (P.Homes.asked placement.now)) (state_of self.old copies.now updates.now fetches.now) (idle session.now) r).answer }
+        ensures answer { result ≡ told read_told (read_rule V.kind (placed (P.Placement.count placement.now) (P.Placement.size placement.now) (P.Placement.held placement.now) (P.Homes.asked placement.now)) (state_of self.old copies.now updates.now fetches.now) (idle session.now) r).answer }
         ensures after { state_of self.new copies.now updates.now fetches.now ≡ (read_rule V.kind (placed (P.Placement.count placement.now) (P.Placement.size placement.now) (P.Placement.held placement.now) (P.Homes.asked placement.now)) (state_of self.old copies.now updates.now fetches.now) (idle session.now) r).after }
     {
         if !self.fits(placement, copies, updates, fetches) {

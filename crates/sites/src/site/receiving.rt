@@ -56,9 +56,9 @@ impl Site {
         updates: &mut [WaitingUpdate],
         update: Update<V>,
     ) -> Result<(), Fault>
-        requires placement_value { P.Placement.count placement.now ≡ self.old.sites }
+        requires same_sites { P.Placement.count placement.now ≡ self.old.sites }
         requires updates_len { length updates.old ≡ self.old.update_places }
-        requires sender_lt_sites { update.sender < update.sites }
+        requires sender_below { update.sender < update.sites }
         ensures answer { (copies : List CopyItem) (fetches : List FetchItem) → result ≡ (received V.kind (placed (P.Placement.count placement.now) (P.Placement.size placement.now) (P.Placement.held placement.now) (P.Homes.asked placement.now)) (state_of self.old copies updates.old fetches) (OfUpdate update)).answer }
         ensures after { (copies : List CopyItem) (fetches : List FetchItem) → state_of self.new copies updates.new fetches ≡ (received V.kind (placed (P.Placement.count placement.now) (P.Placement.size placement.now) (P.Placement.held placement.now) (P.Homes.asked placement.now)) (state_of self.old copies updates.old fetches) (OfUpdate update)).after }
     {
@@ -88,7 +88,7 @@ impl Site {
         fetches: &mut [WaitingFetch],
         fetch: &Fetch,
     ) -> Result<(), Fault>
-        requires placement_value { P.Placement.count placement.now ≡ self.old.sites }
+        requires same_sites { P.Placement.count placement.now ≡ self.old.sites }
         requires fetches_len { length fetches.old ≡ self.old.fetch_places }
         ensures answer { (copies : List CopyItem) (updates : List UpdateItem) → result ≡ (received V.kind (placed (P.Placement.count placement.now) (P.Placement.size placement.now) (P.Placement.held placement.now) (P.Homes.asked placement.now)) (state_of self.old copies updates fetches.old) (OfFetch fetch.now)).answer }
         ensures after { (copies : List CopyItem) (updates : List UpdateItem) → state_of self.new copies updates fetches.new ≡ (received V.kind (placed (P.Placement.count placement.now) (P.Placement.size placement.now) (P.Placement.held placement.now) (P.Homes.asked placement.now)) (state_of self.old copies updates fetches.old) (OfFetch fetch.now)).after }
@@ -113,8 +113,8 @@ impl Site {
 
     // Is the update for a rack of as many sites, of another site, of a register held here, and counted for here?
     fn update_for_here<V: ValueKind, P: Homes>(&self, placement: &P, update: &Update<V>) -> bool
-        requires placement_value { P.Placement.count placement.now ≡ self.now.sites }
-        requires sender_lt_sites { update.now.sender < update.now.sites }
+        requires same_sites { P.Placement.count placement.now ≡ self.now.sites }
+        requires sender_below { update.now.sender < update.now.sites }
         ensures { result ≡ update_for_here (placed (P.Placement.count placement.now) (P.Placement.size placement.now) (P.Placement.held placement.now) (P.Homes.asked placement.now)) (state_of self.now [] [] []) update.now }
     {
         update.sites == self.sites
@@ -125,7 +125,7 @@ impl Site {
 
     // Is the update neither applied here nor waiting?
     fn update_new<V: ValueKind>(&self, updates: &[WaitingUpdate], update: &Update<V>) -> bool
-        requires sender_lt_sites { update.now.sender < self.now.sites }
+        requires sender_below { update.now.sender < self.now.sites }
         requires updates_len { length updates.now ≡ self.now.update_places }
         ensures { result ≡ update_new (state_of self.now [] updates.now []) update.now }
     {

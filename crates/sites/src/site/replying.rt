@@ -4,6 +4,7 @@ ghost use Rattle.protocol.specs.Replying.{take_rule, reply_for_here, of_the_fetc
 ghost use Rattle.protocol.specs.States.{placed};
 ghost use Rattle.protocol.specs.Words.{caught_up};
 ghost use Rattle.clocks.specs.Matrices.{column};
+ghost use Rattle.sites.specs.Answers.{told, read_told};
 ghost use Rattle.sites.specs.States.{state_of, awaiting};
 ghost use Rattle.sites.specs.Tests.{taken_over};
 
@@ -29,7 +30,7 @@ impl Site {
         session: Awaiting,
         bytes: &[u8],
     ) -> Result<(Idle, Read<V>), (Awaiting, Fault)>
-        ensures answer { result ≡ taken_over session (take_rule V.kind (placed (P.Placement.count placement.now) (P.Placement.size placement.now) (P.Placement.held placement.now) (P.Homes.asked placement.now)) (state_of self.old copies.now updates.now fetches.now) (awaiting session) bytes.now).answer }
+        ensures answer { result ≡ taken_over session (told read_told (take_rule V.kind (placed (P.Placement.count placement.now) (P.Placement.size placement.now) (P.Placement.held placement.now) (P.Homes.asked placement.now)) (state_of self.old copies.now updates.now fetches.now) (awaiting session) bytes.now).answer) }
         ensures after { state_of self.new copies.now updates.now fetches.now ≡ (take_rule V.kind (placed (P.Placement.count placement.now) (P.Placement.size placement.now) (P.Placement.held placement.now) (P.Homes.asked placement.now)) (state_of self.old copies.now updates.now fetches.now) (awaiting session) bytes.now).after }
     {
         match self.try_take::<V, P>(placement, copies, updates, fetches, &session, bytes) {
@@ -50,7 +51,7 @@ impl Site {
         session: &Awaiting,
         bytes: &[u8],
     ) -> Result<Read<V>, Fault>
-        ensures answer { result ≡ (take_rule V.kind (placed (P.Placement.count placement.now) (P.Placement.size placement.now) (P.Placement.held placement.now) (P.Homes.asked placement.now)) (state_of self.old copies.now updates.now fetches.now) (awaiting session.now) bytes.now).answer }
+        ensures answer { result ≡ told read_told (take_rule V.kind (placed (P.Placement.count placement.now) (P.Placement.size placement.now) (P.Placement.held placement.now) (P.Homes.asked placement.now)) (state_of self.old copies.now updates.now fetches.now) (awaiting session.now) bytes.now).answer }
         ensures after { state_of self.new copies.now updates.now fetches.now ≡ (take_rule V.kind (placed (P.Placement.count placement.now) (P.Placement.size placement.now) (P.Placement.held placement.now) (P.Homes.asked placement.now)) (state_of self.old copies.now updates.now fetches.now) (awaiting session.now) bytes.now).after }
     {
         if !self.fits(placement, copies, updates, fetches) {

@@ -3,6 +3,7 @@ ghost use Rattle.std.specs.Prelude.{◌≡◌, ◌<◌, List, [], length, get_or
 ghost use Rattle.waiting.specs.declared.items.WaitingUpdate.{WaitingUpdate as UpdateItem};
 ghost use Rattle.protocol.specs.Serving.{serve_rule, served_at, no_fetch};
 ghost use Rattle.protocol.specs.States.{placed};
+ghost use Rattle.sites.specs.Answers.{told, served_told};
 ghost use Rattle.sites.specs.Replies.{replies, replied_in};
 ghost use Rattle.sites.specs.States.{state_of};
 
@@ -27,7 +28,7 @@ impl Site {
         fetches: &mut [WaitingFetch],
         place: &mut [u8],
     ) -> Result<Served, Fault>
-        ensures answer { result ≡ (serve_rule V.kind (placed (P.Placement.count placement.now) (P.Placement.size placement.now) (P.Placement.held placement.now) (P.Homes.asked placement.now)) (state_of self.old copies.now updates.now fetches.old) place.old).answer }
+        ensures answer { result ≡ told served_told (serve_rule V.kind (placed (P.Placement.count placement.now) (P.Placement.size placement.now) (P.Placement.held placement.now) (P.Homes.asked placement.now)) (state_of self.old copies.now updates.now fetches.old) place.old).answer }
         ensures after { state_of self.new copies.now updates.now fetches.new ≡ (serve_rule V.kind (placed (P.Placement.count placement.now) (P.Placement.size placement.now) (P.Placement.held placement.now) (P.Homes.asked placement.now)) (state_of self.old copies.now updates.now fetches.old) place.old).after }
         ensures place { place.new ≡ (serve_rule V.kind (placed (P.Placement.count placement.now) (P.Placement.size placement.now) (P.Placement.held placement.now) (P.Homes.asked placement.now)) (state_of self.old copies.now updates.now fetches.old) place.old).place }
     {
@@ -51,10 +52,10 @@ impl Site {
         index: usize,
         place: &mut [u8],
     ) -> Result<Served, Fault>
-        requires index_bound { index < self.old.fetches_waiting }
+        requires index_below { index < self.old.fetches_waiting }
         requires fetches_len { length fetches.old ≡ self.old.fetch_places }
-        requires no_fetch_in_bounds { (get_or fetches.old index no_fetch).register < length copies.now }
-        ensures answer { (updates : List UpdateItem) → result ≡ (served_at V.kind (state_of self.old copies.now updates fetches.old) place.old index (slice_index_or fetches.old index no_fetch)).answer }
+        requires register_below { (get_or fetches.old index no_fetch).register < length copies.now }
+        ensures answer { (updates : List UpdateItem) → result ≡ told served_told (served_at V.kind (state_of self.old copies.now updates fetches.old) place.old index (slice_index_or fetches.old index no_fetch)).answer }
         ensures after { (updates : List UpdateItem) → state_of self.new copies.now updates fetches.new ≡ (served_at V.kind (state_of self.old copies.now updates fetches.old) place.old index (slice_index_or fetches.old index no_fetch)).after }
         ensures place { (updates : List UpdateItem) → place.new ≡ (served_at V.kind (state_of self.old copies.now updates fetches.old) place.old index (slice_index_or fetches.old index no_fetch)).place }
     {

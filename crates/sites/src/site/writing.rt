@@ -5,6 +5,7 @@ ghost use Rattle.frames.specs.Messages.{update_frame};
 ghost use Rattle.frames.specs.Writing.{write_answer, write_place};
 ghost use Rattle.protocol.specs.States.{placed};
 ghost use Rattle.protocol.specs.Writing.{write_rule, update_size};
+ghost use Rattle.sites.specs.Answers.{told, written_told};
 ghost use Rattle.sites.specs.States.{state_of, idle};
 ghost use Rattle.sites.specs.Written.{room_for, noted};
 ghost use Rattle.waiting.specs.declared.items.WaitingFetch.{WaitingFetch as FetchItem};
@@ -38,7 +39,7 @@ impl Site {
         place: &mut [u8],
     ) -> (Idle, Result<Written, Fault>)
         ensures session { result.0 ≡ session }
-        ensures answer { result.1 ≡ (write_rule V.kind (placed (P.Placement.count placement.now) (P.Placement.size placement.now) (P.Placement.held placement.now) (P.Homes.asked placement.now)) (state_of self.old copies.old updates.now fetches.now) (idle session) r value place.old).answer }
+        ensures answer { result.1 ≡ told written_told (write_rule V.kind (placed (P.Placement.count placement.now) (P.Placement.size placement.now) (P.Placement.held placement.now) (P.Homes.asked placement.now)) (state_of self.old copies.old updates.now fetches.now) (idle session) r value place.old).answer }
         ensures after { state_of self.new copies.new updates.now fetches.now ≡ (write_rule V.kind (placed (P.Placement.count placement.now) (P.Placement.size placement.now) (P.Placement.held placement.now) (P.Homes.asked placement.now)) (state_of self.old copies.old updates.now fetches.now) (idle session) r value place.old).after }
         ensures place { place.new ≡ (write_rule V.kind (placed (P.Placement.count placement.now) (P.Placement.size placement.now) (P.Placement.held placement.now) (P.Homes.asked placement.now)) (state_of self.old copies.old updates.now fetches.now) (idle session) r value place.old).place }
     {
@@ -59,7 +60,7 @@ impl Site {
         value: V,
         place: &mut [u8],
     ) -> Result<Written, Fault>
-        ensures answer { result ≡ (write_rule V.kind (placed (P.Placement.count placement.now) (P.Placement.size placement.now) (P.Placement.held placement.now) (P.Homes.asked placement.now)) (state_of self.old copies.old updates.now fetches.now) (idle session.now) r value place.old).answer }
+        ensures answer { result ≡ told written_told (write_rule V.kind (placed (P.Placement.count placement.now) (P.Placement.size placement.now) (P.Placement.held placement.now) (P.Homes.asked placement.now)) (state_of self.old copies.old updates.now fetches.now) (idle session.now) r value place.old).answer }
         ensures after { state_of self.new copies.new updates.now fetches.now ≡ (write_rule V.kind (placed (P.Placement.count placement.now) (P.Placement.size placement.now) (P.Placement.held placement.now) (P.Homes.asked placement.now)) (state_of self.old copies.old updates.now fetches.now) (idle session.now) r value place.old).after }
         ensures place { place.new ≡ (write_rule V.kind (placed (P.Placement.count placement.now) (P.Placement.size placement.now) (P.Placement.held placement.now) (P.Homes.asked placement.now)) (state_of self.old copies.old updates.now fetches.now) (idle session.now) r value place.old).place }
     {
@@ -123,10 +124,10 @@ impl Site {
 
     // Counts the write, which has this matrix; where it is held here, its value becomes the copy.
     fn note(&mut self, copies: &mut [Replica], r: u16, held: bool, bits: Bits, matrix: &Matrix)
-        requires written_lt_limit { self.old.written < limit }
-        requires r_in_bounds { r < length copies.old }
-        requires site_bound { held ≡ true → slice_index self.old.applied.counts self.old.site < limit }
-        requires counts_value { within (self.old.sites * self.old.sites) matrix.now.counts ≡ true }
+        requires number_below { self.old.written < limit }
+        requires register_below { r < length copies.old }
+        requires count_below { held ≡ true → slice_index self.old.applied.counts self.old.site < limit }
+        requires matrix_within { within (self.old.sites * self.old.sites) matrix.now.counts ≡ true }
         ensures { (updates : List UpdateItem) (fetches : List FetchItem) → state_of self.new copies.new updates fetches ≡ noted (state_of self.old copies.old updates fetches) r held bits.bytes matrix.now.counts }
     {
         self.sent = *matrix;

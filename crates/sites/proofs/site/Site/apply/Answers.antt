@@ -1,5 +1,5 @@
 -- The update that was found was judged with its list.
-use Rattle.std.proofs.Common.{◌≡◌, ◌<◌, ◌≤◌, true, List, length, get_or, sym, ap, ◌∙◌, subst, arith}
+use Rattle.std.proofs.Common.{◌≡◌, ◌<◌, true, List, length, get_or, sym, ap, ◌∙◌, subst, arith}
 use Rattle.protocol.specs.States.{placed}
 use Rattle.protocol.specs.Words.{fits, updates_ok}
 use Rattle.protocol.specs.Applying.{no_update}
@@ -21,9 +21,9 @@ apply_at-requires g c =
     let u : updates_ok k s ≡ true = sym c.updates_ok.ensures ∙ c.if-not-updates_ok.false in
     let i : c.in-Some.index < o.updates_waiting = c.in-Some.ensures.within in
     let w = update_found k s c.in-Some.index (omega arith) i u in
-    let e : c.oldest.new.places ≡ c.args.updates.now = c.oldest.ensures.same in (
-      i,
-      ap length e ∙ t.updates,
-      subst (λ (xs : List WaitingUpdate). (get_or xs c.in-Some.index no_update).sender < o.sites) (sym e) w.0,
-      subst (λ (xs : List WaitingUpdate). (get_or xs c.in-Some.index no_update).register < length c.args.copies.now) (sym e) (let l = t.copies in let r = w.1 in omega arith),
-    )
+    let e : c.oldest.new.places ≡ c.args.updates.now = c.oldest.ensures.same in record {
+      index_below = i;
+      updates_len = ap length e ∙ t.updates;
+      sender_below = subst (λ (xs : List WaitingUpdate). (get_or xs c.in-Some.index no_update).sender < o.sites) (sym e) w.0;
+      register_below = subst (λ (xs : List WaitingUpdate). (get_or xs c.in-Some.index no_update).register < length c.args.copies.now) (sym e) (let l = t.copies in let r = w.1 in omega arith);
+    }

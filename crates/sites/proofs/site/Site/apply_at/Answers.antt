@@ -1,5 +1,5 @@
 -- The count that is raised was below the limit.
-use Rattle.std.proofs.Common.{◌≡◌, ◌<◌, get_or, sym, ◌∙◌, arith}
+use Rattle.std.proofs.Common.{◌<◌, get_or, sym, ◌∙◌, arith}
 use Rattle.std.proofs.lemmas.Bool.{ltb-true}
 use Rattle.clocks.specs.Counts.{limit}
 use Rattle.clocks.proofs.RowLaws.{raised_at_within}
@@ -13,4 +13,4 @@ invariant_of-self c =
     let l : c.count.result < limit = ltb-true _ _ (sym c.can_rise.ensures ∙ c.if-not-can_rise.false) in
     let b : get_or o.applied.counts k 0 < limit = rw (sym c.count.ensures) l in
     let w = raised_at_within o.sites o.applied.counts k b o.applied_within in
-    (o.inside, ((omega arith, o.updates_fit.1), (o.fetches_fit, (o.numbers_within, (o.sent_within, (rw c.raise.ensures w, tt))))))
+    record { inside = o.inside; updates_fit = (omega arith, o.updates_fit.1); fetches_fit = o.fetches_fit; numbers_within = o.numbers_within; sent_within = o.sent_within; applied_within = rw c.raise.ensures w }

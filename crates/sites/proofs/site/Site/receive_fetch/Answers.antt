@@ -22,9 +22,9 @@ returns g c =
       answer = λ copies others.
           c.push-pushed.ensures.answer
           ∙ (λ j. push_answer (c.over-list.ensures.count j) (length (c.over-list.ensures.places j)))
-          ∙ fetch_says k p (S copies others) c.args.fetch.now here new c.requires.1 o.fetches_fit.0;
+          ∙ fetch_says k p (S copies others) c.args.fetch.now here new c.requires.fetches_len o.fetches_fit.0;
       after = λ copies others.
-          fetch_leaves k p (S copies others) c.args.fetch.now here new c.requires.1 o.fetches_fit.0 c.count-self.result _
+          fetch_leaves k p (S copies others) c.args.fetch.now here new c.requires.fetches_len o.fetches_fit.0 c.count-self.result _
           (c.count-self.ensures ∙ c.push-pushed.ensures.count ∙ (λ j. min (c.over-list.ensures.count j + 1) (length (c.over-list.ensures.places j))))
           (let e = c.push-pushed.ensures.places ∙ (λ j. set (c.over-list.ensures.places j) (c.over-list.ensures.count j) (fetch_item c.args.fetch.now)) in search rules);
     }

@@ -22,9 +22,9 @@ returns g c =
       answer = λ copies others.
           c.push-pushed.ensures.answer
           ∙ (λ j. push_answer (c.over-list.ensures.count j) (length (c.over-list.ensures.places j)))
-          ∙ update_says k p (S copies others) c.args.update here new c.requires.1 o.updates_fit.0;
+          ∙ update_says k p (S copies others) c.args.update here new c.requires.updates_len o.updates_fit.0;
       after = λ copies others.
-          update_leaves k p (S copies others) c.args.update here new c.requires.1 o.updates_fit.0 c.count-self.result _
+          update_leaves k p (S copies others) c.args.update here new c.requires.updates_len o.updates_fit.0 c.count-self.result _
           (c.count-self.ensures ∙ c.push-pushed.ensures.count ∙ (λ j. min (c.over-list.ensures.count j + 1) (length (c.over-list.ensures.places j))))
           (let e = c.push-pushed.ensures.places ∙ (λ j. set (c.over-list.ensures.places j) (c.over-list.ensures.count j) (record { sender = c.args.update.sender; register = c.args.update.register; number = c.args.update.number; matrix = c.args.update.matrix; bits = record { bytes = c.plain.ensures j } })) in search rules);
     }

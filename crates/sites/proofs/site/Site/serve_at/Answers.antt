@@ -1,9 +1,10 @@
 -- A reply that is refused leaves the place as it was.
-use Rattle.std.proofs.Common.{List, length, get_or, Err, sym, ap, ◌∙◌}
+use Rattle.std.proofs.Common.{List, get_or, Err, sym, ap, ◌∙◌}
 use Rattle.std.proofs.lemmas.Result.{err_from_is_err_and}
 use Rattle.waiting.specs.declared.items.WaitingUpdate.{WaitingUpdate}
 use Rattle.protocol.specs.States.{State}
 use Rattle.protocol.specs.Serving.{no_fetch}
+use Rattle.sites.specs.Answers.{told, served_told}
 use Rattle.sites.specs.States.{state_of}
 use Rattle.sites.proofs.Outcomes.{says, leaves, fills}
 use Rattle.sites.proofs.Serves.{serve_refused}
@@ -17,7 +18,7 @@ returns-in_err-length g c =
     let q = sym c.reply.ensures.answer ∙ c.in_err-length.was in
     let e = λ (updates : List WaitingUpdate). serve_refused g.V.ValueKind.kind (s updates) c.args.place.now c.args.index f c.in_err-length.field-0.0 q in
     record {
-      answer = λ updates. y.1 ∙ ap Err y.2 ∙ says (e updates).0;
+      answer = λ updates. y.1 ∙ ap Err y.2 ∙ ap (told served_told) (says (e updates).0);
       after = λ updates. leaves (e updates).0;
       place = λ updates. c.reply.ensures.place ∙ (e updates).1 ∙ fills (e updates).0;
     }

@@ -1,4 +1,4 @@
-use Rattle.std.proofs.Common.{◌≡◌, ℕ, ◌+◌, ◌<◌, Bool, true, false, length, Some, Ok, Err, sym, refl, ap, ◌∙◌, arith, rules}
+use Rattle.std.proofs.Common.{◌≡◌, ◌+◌, true, false, length, Some, Ok, Err, sym, ap, ◌∙◌, arith}
 use Rattle.std.proofs.lemmas.Result.{err_from_is_err_and}
 use Rattle.std.proofs.lemmas.Bool.{ltb-true}
 use Rattle.protocol.specs.States.{placed}
@@ -7,6 +7,7 @@ use Rattle.frames.specs.Messages.{fetch_frame}
 use Rattle.frames.specs.Writing.{write_place}
 use Rattle.protocol.specs.Fetching.{fetch_size, awaiting}
 use Rattle.protocol.specs.Words.{bound_for, fits}
+use Rattle.sites.specs.Answers.{told, begun_told}
 use Rattle.sites.specs.Tests.{idle_here}
 use Rattle.sites.specs.States.{state_of, idle}
 use Rattle.sites.proofs.Fetches.{fetch_held, fetch_full, fetch_cramped, fetch_done}
@@ -23,7 +24,7 @@ returns-then-holds g c =
     let i : idle_here s z c.args.r ≡ Ok tt = sym c.idle_here.ensures ∙ c.in_ok-idle_here.was in
     let b : bound_for p c.args.r s.site ≡ true = sym c.holds.ensures ∙ c.if-holds.true in
     let e = fetch_held p s z c.args.r c.args.place.now f i b in
-    record { answer = ap Err c.of_site-then-holds.ensures ∙ says e; after = leaves e; place = fills e; below = tt }
+    record { answer = ap Err c.of_site-then-holds.ensures ∙ ap (told begun_told) (says e); after = leaves e; place = fills e; below = tt }
 
 pub returns-then-not-can_rise : goal.returns-then-not-can_rise
 returns-then-not-can_rise g c =
@@ -35,7 +36,7 @@ returns-then-not-can_rise g c =
     let i : idle_here s z c.args.r ≡ Ok tt = sym c.idle_here.ensures ∙ c.in_ok-idle_here.was in
     let b : bound_for p c.args.r s.site ≡ false = sym c.holds.ensures ∙ c.if-holds.false in
     let e = fetch_full p s z c.args.r c.args.place.now f i b (sym c.can_rise.ensures ∙ c.if-not-can_rise.true) in
-    record { answer = ap Err c.of_site-then-not-can_rise.ensures ∙ says e; after = leaves e; place = fills e; below = tt }
+    record { answer = ap Err c.of_site-then-not-can_rise.ensures ∙ ap (told begun_told) (says e); after = leaves e; place = fills e; below = tt }
 
 pub returns-in_err-length : goal.returns-in_err-length
 returns-in_err-length g c =
@@ -50,7 +51,7 @@ returns-in_err-length g c =
     let w = cramped (fetch_size s) (length c.args.place.now) c.in_err-length.field-0.0 (sym c.write_fetch.ensures.answer ∙ c.in_err-length.was) in
     let e = fetch_cramped p s z c.args.r c.args.place.now f i b (sym c.can_rise.ensures ∙ c.if-not-can_rise.false) w.0 in
     record {
-      answer = y.1 ∙ ap Err (y.2 ∙ w.1) ∙ says e;
+      answer = y.1 ∙ ap Err (y.2 ∙ w.1) ∙ ap (told begun_told) (says e);
       after = leaves e;
       place = c.write_fetch.ensures.after ∙ place_kept _ _ _ w.0 ∙ fills e;
       below = rw y.1 tt;
@@ -68,7 +69,7 @@ returns g c =
     let w = roomy (fetch_size s) (length c.args.place.now) c.in_ok-length.length (sym c.write_fetch.ensures.answer ∙ c.in_ok-length.was) in
     let e = fetch_done p s z c.args.r c.args.place.now f i b (sym c.can_rise.ensures ∙ c.if-not-can_rise.false) w.0 in
     record {
-      answer = (λ j. Ok (record { home = c.ask-home.ensures.named j; length = w.1 j })) ∙ says e;
+      answer = (λ j. Ok (record { home = c.ask-home.ensures.named j; length = w.1 j })) ∙ ap (told begun_told) (says e);
       after = (λ j. awaiting s (s.fetched + 1) (Some (c.args.r, c.ask-home.ensures.named j))) ∙ leaves e;
       place =
           c.write_fetch.ensures.after

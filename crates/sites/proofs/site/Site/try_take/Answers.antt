@@ -14,4 +14,4 @@ invariant_of-self g c =
     let w =
     merged_reply g.V.ValueKind.kind g.met.V.ValueKind.lawful (state_of o [] [] []) bytes c.in_ok-reply.reply c.merge.new.self.counts small
     (sym c.read_reply.ensures ∙ c.in_ok-reply.was) (sym c.reply_for_here.ensures ∙ c.if-not-reply_for_here.false) o.sent_within c.merge.ensures in
-    (o.inside, (o.updates_fit, (o.fetches_fit, (o.numbers_within, (w, (o.applied_within, tt))))))
+    record { inside = o.inside; updates_fit = o.updates_fit; fetches_fit = o.fetches_fit; numbers_within = o.numbers_within; sent_within = w; applied_within = o.applied_within }

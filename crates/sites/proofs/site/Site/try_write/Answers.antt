@@ -1,5 +1,5 @@
 -- Each exit: what the code has tested is what the rule tests, and the update that was sent is the rule's.
-use Rattle.std.proofs.Common.{◌≡◌, ℕ, ◌+◌, ◌<◌, Bool, true, false, cond, eqb, length, Ok, Err, sym, ap, ◌∙◌, arith}
+use Rattle.std.proofs.Common.{◌≡◌, ◌+◌, true, false, cond, eqb, Ok, Err, sym, ap, ◌∙◌, arith}
 use Rattle.std.proofs.lemmas.Result.{err_from_is_err_and}
 use Rattle.clocks.specs.Matrices.{raised}
 use Rattle.clocks.proofs.MatrixLaws.{raised_within}
@@ -8,6 +8,7 @@ use Rattle.frames.specs.Writing.{write_place}
 use Rattle.protocol.specs.States.{placed}
 use Rattle.protocol.specs.Words.{fits, others, bound_for}
 use Rattle.protocol.specs.Writing.{can_write, grown, update_size}
+use Rattle.sites.specs.Answers.{told, written_told}
 use Rattle.sites.specs.States.{state_of, idle}
 use Rattle.sites.specs.Tests.{idle_here}
 use Rattle.sites.specs.Written.{noted}
@@ -27,7 +28,7 @@ returns-in_err-idle_here g c =
     let f : fits p s ≡ true = sym c.fits.ensures ∙ c.if-not-fits.false in
     let y = err_from_is_err_and c.from_residual.result c.from_residual.ensures.1 in
     let e = write_refused k p s z r c.args.value c.args.place.now f c.in_err-idle_here.field-0.0 (sym c.idle_here.ensures ∙ c.in_err-idle_here.was) in
-    record { answer = y.1 ∙ ap Err y.2 ∙ says e; after = leaves e; place = fills e }
+    record { answer = y.1 ∙ ap Err y.2 ∙ ap (told written_told) (says e); after = leaves e; place = fills e }
 
 pub returns-then-not-room_for : goal.returns-then-not-room_for
 returns-then-not-room_for g c =
@@ -42,7 +43,7 @@ returns-then-not-room_for g c =
     let i : idle_here s z r ≡ Ok tt = sym c.idle_here.ensures ∙ c.in_ok-idle_here.was in
     let a : can_write p s r ≡ false = sym (room_so p s r c.holders-holders.result t.sites c.args.self.now.inside.0 c.holders-holders.ensures) ∙ sym c.room_for.ensures ∙ c.if-not-room_for.true in
     let e = write_full k p s z r c.args.value c.args.place.now f i a in
-    record { answer = ap Err c.of_site-then-not-room_for.ensures ∙ says e; after = leaves e; place = fills e }
+    record { answer = ap Err c.of_site-then-not-room_for.ensures ∙ ap (told written_told) (says e); after = leaves e; place = fills e }
 
 pub returns-in_err-length : goal.returns-in_err-length
 returns-in_err-length g c =
@@ -71,7 +72,7 @@ returns-in_err-length g c =
       value = c.args.value;
     })) c.args.place.now)) in
     let e = write_cramped k p s z r c.args.value c.args.place.now f i a c.in_err-length.field-0.0 q in
-    record { answer = y.1 ∙ ap Err y.2 ∙ says e.0; after = leaves e.0; place = w ∙ e.1 ∙ fills e.0 }
+    record { answer = y.1 ∙ ap Err y.2 ∙ ap (told written_told) (says e.0); after = leaves e.0; place = w ∙ e.1 ∙ fills e.0 }
 
 pub note-requires : goal.note-requires
 note-requires g c =
@@ -87,7 +88,7 @@ note-requires g c =
     let i : idle_here s z r ≡ Ok tt = sym c.idle_here.ensures ∙ c.in_ok-idle_here.was in
     let l = idle_below s z r i in
     let w = raised_within s.sites s.sent s.site c.holders-holders.result q.row c.args.self.now.sent_within in
-    (q.number, omega arith, λ h. q.own (sym c.has.ensures ∙ h), rw c.raise.ensures w)
+    record { number_below = q.number; register_below = omega arith; count_below = λ h. q.own (sym c.has.ensures ∙ h); matrix_within = rw c.raise.ensures w }
 
 pub returns : goal.returns
 returns g c =
@@ -117,7 +118,7 @@ returns g c =
     let e = write_done k p s z r c.args.value c.args.place.now f i a c.in_ok-length.length q in
     let h : c.has.result ≡ bound_for p r s.site = sym (held_so p s r c.holders-holders.result c.has.result t.sites c.args.self.now.inside.0 c.holders-holders.ensures c.has.ensures) in
     record {
-      answer = (λ j. Ok (record { label = (s.site, s.written + 1); others = o j; length = c.in_ok-length.length })) ∙ says e;
+      answer = (λ j. Ok (record { label = (s.site, s.written + 1); others = o j; length = c.in_ok-length.length })) ∙ ap (told written_told) (says e);
       after = c.note.ensures c.args.updates.now c.args.fetches.now ∙ (λ j. noted s r (h j) (c.plain-bits.ensures j) (d j)) ∙ leaves e;
       place = w ∙ fills e;
     }

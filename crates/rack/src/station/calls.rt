@@ -8,6 +8,7 @@ ghost use Rattle.protocol.specs.Replying.{take_rule, abandon_rule};
 ghost use Rattle.protocol.specs.Serving.{serve_rule};
 ghost use Rattle.protocol.specs.States.{placed};
 ghost use Rattle.protocol.specs.Writing.{write_rule};
+ghost use Rattle.sites.specs.Answers.{told, applied_told, written_told};
 ghost use Rattle.rack.specs.Stations.{station_state, idle_first, awaiting_first, begun_held, ended_held};
 
 use crate::station::{Held, Station};
@@ -37,7 +38,7 @@ impl Station {
     }
 
     pub fn apply<V: ValueKind + Drop, P: Homes>(&mut self, placement: &P) -> Result<Applied, Fault>
-        ensures answer { result ≡ (apply_rule V.kind (placed (P.Placement.count placement.now) (P.Placement.size placement.now) (P.Placement.held placement.now) (P.Homes.asked placement.now)) (station_state self.old)).answer }
+        ensures answer { result ≡ told applied_told (apply_rule V.kind (placed (P.Placement.count placement.now) (P.Placement.size placement.now) (P.Placement.held placement.now) (P.Homes.asked placement.now)) (station_state self.old)).answer }
         ensures after { station_state self.new ≡ (apply_rule V.kind (placed (P.Placement.count placement.now) (P.Placement.size placement.now) (P.Placement.held placement.now) (P.Homes.asked placement.now)) (station_state self.old)).after }
         ensures session { self.new.session ≡ self.old.session }
     {
@@ -56,7 +57,7 @@ impl Station {
         value: V,
         place: &mut [u8],
     ) -> Result<Written, Fault>
-        ensures answer { result ≡ (idle_first self.old.session (λ z. write_rule V.kind (placed (P.Placement.count placement.now) (P.Placement.size placement.now) (P.Placement.held placement.now) (P.Homes.asked placement.now)) (station_state self.old) z r value place.old) (station_state self.old) place.old).answer }
+        ensures answer { result ≡ told written_told (idle_first self.old.session (λ z. write_rule V.kind (placed (P.Placement.count placement.now) (P.Placement.size placement.now) (P.Placement.held placement.now) (P.Homes.asked placement.now)) (station_state self.old) z r value place.old) (station_state self.old) place.old).answer }
         ensures after { station_state self.new ≡ (idle_first self.old.session (λ z. write_rule V.kind (placed (P.Placement.count placement.now) (P.Placement.size placement.now) (P.Placement.held placement.now) (P.Homes.asked placement.now)) (station_state self.old) z r value place.old) (station_state self.old) place.old).after }
         ensures place { place.new ≡ (idle_first self.old.session (λ z. write_rule V.kind (placed (P.Placement.count placement.now) (P.Placement.size placement.now) (P.Placement.held placement.now) (P.Homes.asked placement.now)) (station_state self.old) z r value place.old) (station_state self.old) place.old).place }
         ensures session { self.new.session ≡ self.old.session }

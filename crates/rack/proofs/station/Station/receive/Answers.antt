@@ -1,5 +1,5 @@
 -- The tables are those of the vectors, before and after the call.
-use Rattle.std.proofs.Common.{◌≡◌, List, length, vec_items, vec_len, sym, refl, ap, ◌∙◌, arith}
+use Rattle.std.proofs.Common.{◌≡◌, List, length, vec_len, sym, refl, ap, ◌∙◌, arith}
 use Rattle.std.proofs.lemmas.List.{with_items_is}
 use Rattle.waiting.specs.declared.items.Replica.{Replica}
 use Rattle.waiting.specs.declared.items.WaitingFetch.{WaitingFetch}
@@ -18,9 +18,9 @@ returns g c =
     let t = c.args.self.now in
     let S = λ (a : List Replica) (b : List WaitingUpdate) (d : List WaitingFetch). state_of t.site a b d in
     let O : State → Outcome (Unit {0}) = λ s. receive_rule k p s c.args.bytes.now in
-    let q : O (S c.deref.result.now c.deref-mut.result.now c.deref-mut-2.result.now) ≡ O (station_state t) = λ j. O (S (c.deref.ensures.value j) (c.deref-mut.ensures.value j) (c.deref-mut-2.ensures.value j)) in
-    let n1 : length c.receive.new.updates ≡ vec_len t.updates = omega (arith, c.receive.auto.updates, c.deref-mut.ensures.len) in
-    let n2 : length c.receive.new.fetches ≡ vec_len t.fetches = omega (arith, c.receive.auto.fetches, c.deref-mut-2.ensures.len) in
+    let q : O (S c.deref.result.now c.deref_mut.result.now c.deref_mut-2.result.now) ≡ O (station_state t) = λ j. O (S (c.deref.ensures.value j) (c.deref_mut.ensures.value j) (c.deref_mut-2.ensures.value j)) in
+    let n1 : length c.receive.new.updates ≡ vec_len t.updates = omega (arith, c.receive.auto.updates, c.deref_mut.ensures.len) in
+    let n2 : length c.receive.new.fetches ≡ vec_len t.fetches = omega (arith, c.receive.auto.fetches, c.deref_mut-2.ensures.len) in
     record {
       answer = c.receive.ensures.answer ∙ ap (λ (x : Outcome (Unit {0})). x.answer) q;
       after = (λ j. state_of c.receive.new.self (sym c.deref.ensures.value j) (with_items_is t.updates c.receive.new.updates n1 j) (with_items_is t.fetches c.receive.new.fetches n2 j)) ∙ c.receive.ensures.after ∙ ap (λ (x : Outcome (Unit {0})). x.after) q;

@@ -1,4 +1,4 @@
-// What the calls of a site answer when they are not refused. The rules answer these very values.
+// What the calls of a site answer when they are not refused. The rules (specs/) answer records of the same fields.
 
 // An accepted write: its label (writer and write number), the set of the other holders, and the length of the update frame for them; 0, and no
 // frame, if there are none.

@@ -1,10 +1,10 @@
 -- A site of the rack with its tables and the session of its user.
 --
---   station_state t           the site's state, its tables among it
---   idle_first h rule s place       the outcome of a call that wants an idle session: that of the rule with the session that is at hand, and refusal 4 where it is
---                             a fetching one
---   awaiting_first h rule s   the same for a call that wants an awaiting session: refusal 7 where it is an idle one
---   begun_held h r            the session at hand once a fetch was begun, with this answer; ended_held h r once a reply was taken or a fetch abandoned
+--   station_state t             the site's state, its tables among it
+--   idle_first h rule s place   the outcome of a call that wants an idle session: that of the rule with the session that is at hand, and refusal 4 where it is
+--                               a fetching one
+--   awaiting_first h rule s     the same for a call that wants an awaiting session: refusal 7 where it is an idle one
+--   begun_held h r              the session at hand once a fetch was begun, with this answer; ended_held h r once a reply was taken or a fetch abandoned
 --
 -- Assumes nothing.
 use Rattle.std.specs.Prelude.{ℕ, ◌+◌, List, [], Ok, Err, vec_items, Result}

@@ -1,19 +1,15 @@
 // The calls of a station: those of its site, on its tables, with the session that is at hand.
-ghost use Rattle.std.specs.Prelude.{◌≡◌, []};
+ghost use Rattle.std.specs.Prelude.{◌≡◌};
 ghost use Rattle.protocol.specs.Applying.{apply_rule};
-ghost use Rattle.protocol.specs.Fetching.{fetch_rule};
-ghost use Rattle.protocol.specs.Reading.{read_rule};
 ghost use Rattle.protocol.specs.Receiving.{receive_rule};
-ghost use Rattle.protocol.specs.Replying.{take_rule, abandon_rule};
-ghost use Rattle.protocol.specs.Serving.{serve_rule};
 ghost use Rattle.protocol.specs.States.{placed};
 ghost use Rattle.protocol.specs.Writing.{write_rule};
 ghost use Rattle.sites.specs.Answers.{told, applied_told, written_told};
-ghost use Rattle.rack.specs.Stations.{station_state, idle_first, awaiting_first, begun_held, ended_held};
+ghost use Rattle.rack.specs.Stations.{station_state, idle_first};
 
 use crate::station::{Held, Station};
 use placements::{Homes, Placement};
-use protocol::answers::{Applied, Begun, Read, Served, Written};
+use protocol::answers::{Applied, Written};
 use std::mem::replace;
 use values::fault::{Fault, Refusal};
 use values::kind::ValueKind;

@@ -1,8 +1,6 @@
-use Rattle.std.proofs.Common.{◌≡◌, ℕ, List, length, replicate, None, sym, ap, ◌∙◌, ⊎_elim, arith}
+use Rattle.std.proofs.Common.{◌≡◌, ℕ, List, length, None, sym, ap, ◌∙◌, ⊎_elim, arith}
 use Rattle.std.proofs.lemmas.List.{get_or-set_same, get_or-set_other, same_lists, length-replicate, get_or-replicate}
 use Rattle.std.proofs.lemmas.Bool.{cases_eq}
-use Rattle.values.specs.declared.kind.Bits.{Bits}
-use Rattle.clocks.specs.declared.matrix.Matrix.{Matrix}
 use Rattle.waiting.specs.declared.items.Replica.{Replica}
 use Rattle.protocol.specs.Opening.{unwritten}
 use Rattle.protocol.specs.Words.{plain_bytes}

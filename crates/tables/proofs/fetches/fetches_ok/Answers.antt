@@ -1,4 +1,4 @@
-use Rattle.std.proofs.Common.{sym, ap, ◌∙◌}
+use Rattle.std.proofs.Common.{sym, ◌∙◌}
 use Rattle.protocol.specs.Words.{fetch_ok}
 use Rattle.protocol.specs.Serving.{no_fetch}
 use Rattle.tables.specs.Judging.{numbered}

@@ -1,4 +1,4 @@
-use Rattle.std.proofs.Common.{sym, ap, ◌∙◌}
+use Rattle.std.proofs.Common.{sym, ◌∙◌}
 use Rattle.protocol.specs.Words.{update_ok}
 use Rattle.protocol.specs.Applying.{no_update}
 use Rattle.tables.specs.Judging.{numbered}

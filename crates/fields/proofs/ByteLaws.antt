@@ -1,4 +1,4 @@
--- Laws of bits_of and bytes-by: bytes and their bits are inverse to each other, and a byte that changes in one field
+-- Laws of bits_of and bytes_by: bytes and their bits are inverse to each other, and a byte that changes in one field
 -- changes the bits of its slice in that field. By induction on the bytes.
 use Rattle.std.proofs.Common.{◌≡◌, ℕ, zero, suc, ◌+◌, ◌-◌, ◌*◌, ◌/◌, ◌%◌, ◌^◌, ◌<◌, ◌≤◌, Bool, List, [], ◌∷◌, ◌++◌, length, get_or, take, drop, set, sym, refl, ap, ◌∙◌, ap₂, zero-le, mod-eq_of_lt, mul_assoc, mul_comm, add-mul, suc-add, zero-add, arith, length-append, length-drop, length-take}
 use Rattle.std.proofs.lemmas.List.{nil_from_length, drop_at, take_at, take-append-le, drop-append-le, drop_all, drop-drop, take-append-drop}

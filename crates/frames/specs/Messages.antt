@@ -6,7 +6,7 @@
 --   carried n m                                       the counts of a matrix that travel
 --   trimmed n size counts                             size counts, of which the first n are those given and the rest 0
 --   update_clean m, ...                               the message with only the counts that travel
---   UpdateInRange m, ...                            a message whose numbers are in their ranges
+--   UpdateInRange m, ...                              a message whose numbers are in their ranges
 --
 -- Assumes nothing.
 use Rattle.std.specs.Prelude.{ℕ, ◌+◌, ◌-◌, ◌*◌, ◌^◌, ◌<◌, ◌≤◌, List, [], ◌∷◌, ◌++◌, length, take, replicate, Some, None, Option}

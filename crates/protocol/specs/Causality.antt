@@ -10,7 +10,7 @@
 --                           writing where it is bound for the writer
 --   Receives h t i s        step t is an accepted receiving at site i of the update of the write of step s
 --   Waits p h t i s u       at step t that update waits at site i: it was received there at step u, and not applied since
---   PastApplied p h t i s  every write causally before that of step s and bound for site i has been applied there before step t
+--   PastApplied p h t i s   every write causally before that of step s and bound for site i has been applied there before step t
 --
 -- Assumes nothing.
 use Rattle.std.specs.Prelude.{◌≡◌, ℕ, ◌<◌, true, List, Some, Option}

@@ -1,12 +1,12 @@
 -- The three promises, for every run.
 --
---   LabelsNameWrites       what the promises speak of: an accepted write has its writer in its label, and no two have the same label
+--   LabelsNameWrites      what the promises speak of: an accepted write has its writer in its label, and no two have the same label
 --   AppliedInCausalOrder  a site applies only writes bound there, each at most once and after all causally earlier ones bound there; a local read
---                            answers the last write of its register applied there before, else the start value
---   NoStaleReads           a read, local or fetched, answers a write of its register or the start value, and never one that another write of that
---                            register, causally before the read, causally follows; a start value counts as before every write of its register
---   ReadyWhenDue           a waiting update is ready exactly when every causally earlier write bound for that site has been applied there;
---                            applying takes the oldest such update, and answers 13 exactly if there is none, unless it answers 2
+--                         answers the last write of its register applied there before, else the start value
+--   NoStaleReads          a read, local or fetched, answers a write of its register or the start value, and never one that another write of that
+--                         register, causally before the read, causally follows; a start value counts as before every write of its register
+--   ReadyWhenDue          a waiting update is ready exactly when every causally earlier write bound for that site has been applied there;
+--                         applying takes the oldest such update, and answers 13 exactly if there is none, unless it answers 2
 --
 -- No premise but the laws of kind and placement, and where frames come from. They say nothing of progress, of timing, or of sites that crash.
 --

@@ -3,7 +3,7 @@
 --   Call V          a call at some site, with whatever numbers, session, bytes and place its caller hands over
 --   Answer V        what it answers, with the caller's place after it where it wrote into one
 --   Rack            the states of the sites, site 0 first
---   NewRack        every site was opened, with the same capacities
+--   NewRack         every site was opened, with the same capacities
 --   step            one call on a rack: the answer, and the rack after it. Each case is the rule of that call.
 --   rack_after      the rack after some calls
 --   history         the calls with their answers

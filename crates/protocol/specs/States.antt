@@ -2,7 +2,7 @@
 --
 --   Placed        a placement with homes, as the rules see it: site count, register count, who holds what, whom a reader asks
 --   placed        the placement of these numbers and functions
---   LawfulPlaced the laws of a placement with homes
+--   LawfulPlaced  the laws of a placement with homes
 --   State         one site: the numbers of its core, and its three tables whole
 --   Session       the numbers that a session carries
 --   Outcome       what a call answers, and the state and the caller's place after it

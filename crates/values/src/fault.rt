@@ -1,6 +1,6 @@
 // Refusals. Every call of the library that does not do what it was asked answers a `Fault`.
 ghost use Rattle.std.specs.Prelude.{◌≡◌};
-ghost use Rattle.values.specs.Refusals.{number as number_of_lem, of_site, of_frame, of_value};
+ghost use Rattle.values.specs.Refusals.{number as number_of, of_site, of_frame, of_value};
 
 // Why a call is refused; docs/REFUSALS.md has the table.
 #[derive(Clone, Copy)]

@@ -36,6 +36,7 @@ impl Placement for Full {
 
     ghost none = { Prim.search rules };
 
+    // site 0 holds every register
     ghost some = { λ p r k. (0, and_from (nat_lt r p.registers) (nat_lt 0 p.sites) (lt-ltb r p.registers k) (lt-ltb 0 p.sites (omega (arith, p.many.0)))) };
 
     fn sites(&self) -> u8 {

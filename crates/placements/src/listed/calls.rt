@@ -106,6 +106,7 @@ impl Placement for Listed {
 
     ghost none = { Prim.search rules };
 
+    // a set that is not empty has a site
     ghost some = { λ p r k. let a = p.each r k in let s = listed_some p.sites p.registers r p.sets k a.0 a.1 in (s.0, s.2) };
 
     fn sites(&self) -> u8 {
@@ -130,6 +131,7 @@ impl Homes for Listed {
 
     ghost own = { Prim.search rules };
 
+    // the home is the reader, if it holds the register, or the lowest holder, and there is one
     ghost other = { λ p l r h k.
         let a = p.each r k in
         let s = listed_some p.sites p.registers r p.sets k a.0 a.1 in

@@ -80,6 +80,7 @@ impl Placement for Ring {
 
     ghost none = { Prim.search rules };
 
+    // a register's first site holds it
     ghost some = { λ p r k. (r % p.sites, ring_first p.sites p.copies p.registers r (omega (arith, p.many.0)) (omega (arith, p.held.0)) k) };
 
     fn sites(&self) -> u8 {
@@ -104,6 +105,7 @@ impl Homes for Ring {
 
     ghost own = { Prim.search rules };
 
+    // the home is the reader, if it holds the register, or the register's first site
     ghost other = { λ p l r h k.
         cond_both (ring_held p.sites p.copies p.registers r l) l (r % p.sites)
         (λ x. ring_held p.sites p.copies p.registers r x ≡ true)

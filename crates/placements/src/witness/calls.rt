@@ -25,6 +25,7 @@ impl<P: Placement> Placement for Witness<P> {
 
     ghost none = { Prim.search rules };
 
+    // who holds a register below the witness still does
     ghost some = { λ p r k.
         let s = P.Placement.some p.below r k in
         (s.0, and_from _ _ (lt-ltb r _ k) (or_right _ _ s.1)) };

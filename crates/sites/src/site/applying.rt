@@ -1,5 +1,5 @@
 // Applying the oldest update that is ready.
-ghost use Rattle.std.specs.Prelude.{◌≡◌, ◌<◌, List, length, get_or, slice_index_or};
+ghost use Rattle.std.specs.Prelude.{◌≡◌, ◌<◌, List, length, slice_index_or};
 ghost use Rattle.protocol.specs.Applying.{apply_rule, applied_at, no_update};
 ghost use Rattle.waiting.specs.declared.items.WaitingFetch.{WaitingFetch as FetchItem};
 ghost use Rattle.protocol.specs.States.{placed};
@@ -48,8 +48,8 @@ impl Site {
     ) -> Result<Applied, Fault>
         requires index_below { index < self.old.updates_waiting }
         requires updates_len { length updates.old ≡ self.old.update_places }
-        requires sender_below { (get_or updates.old index no_update).sender < self.old.sites }
-        requires register_below { (get_or updates.old index no_update).register < length copies.old }
+        requires sender_below { (slice_index_or updates.old index no_update).sender < self.old.sites }
+        requires register_below { (slice_index_or updates.old index no_update).register < length copies.old }
         ensures answer { (fetches : List FetchItem) → result ≡ told applied_told (applied_at (state_of self.old copies.old updates.old fetches) index (slice_index_or updates.old index no_update)).answer }
         ensures after { (fetches : List FetchItem) → state_of self.new copies.new updates.new fetches ≡ (applied_at (state_of self.old copies.old updates.old fetches) index (slice_index_or updates.old index no_update)).after }
     {

@@ -1,5 +1,5 @@
 // Serving the oldest fetch that is ready.
-ghost use Rattle.std.specs.Prelude.{◌≡◌, ◌<◌, List, [], length, get_or, slice_index_or};
+ghost use Rattle.std.specs.Prelude.{◌≡◌, ◌<◌, List, [], length, slice_index_or};
 ghost use Rattle.waiting.specs.declared.items.WaitingUpdate.{WaitingUpdate as UpdateItem};
 ghost use Rattle.protocol.specs.Serving.{serve_rule, served_at, no_fetch};
 ghost use Rattle.protocol.specs.States.{placed};
@@ -54,7 +54,7 @@ impl Site {
     ) -> Result<Served, Fault>
         requires index_below { index < self.old.fetches_waiting }
         requires fetches_len { length fetches.old ≡ self.old.fetch_places }
-        requires register_below { (get_or fetches.old index no_fetch).register < length copies.now }
+        requires register_below { (slice_index_or fetches.old index no_fetch).register < length copies.now }
         ensures answer { (updates : List UpdateItem) → result ≡ told served_told (served_at V.kind (state_of self.old copies.now updates fetches.old) place.old index (slice_index_or fetches.old index no_fetch)).answer }
         ensures after { (updates : List UpdateItem) → state_of self.new copies.now updates fetches.new ≡ (served_at V.kind (state_of self.old copies.now updates fetches.old) place.old index (slice_index_or fetches.old index no_fetch)).after }
         ensures place { (updates : List UpdateItem) → place.new ≡ (served_at V.kind (state_of self.old copies.now updates fetches.old) place.old index (slice_index_or fetches.old index no_fetch)).place }

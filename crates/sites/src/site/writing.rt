@@ -1,5 +1,5 @@
 // Writing a register.
-ghost use Rattle.std.specs.Prelude.{◌≡◌, ◌+◌, ◌*◌, ◌<◌, ◌≤◌, true, eqb, List, [], length, if◌then◌else◌, Ok as Answered, slice_index};
+ghost use Rattle.std.specs.Prelude.{◌≡◌, ◌+◌, ◌*◌, ◌<◌, ◌≤◌, true, ◌==◌, List, [], length, if◌then◌else◌, Ok as Answered, slice_index};
 ghost use Rattle.clocks.specs.Counts.{limit, within};
 ghost use Rattle.frames.specs.Messages.{update_frame};
 ghost use Rattle.frames.specs.Writing.{write_answer, write_place};
@@ -105,8 +105,8 @@ impl Site {
         place: &mut [u8],
     ) -> Result<usize, Fault>
         requires { self.now.written < limit }
-        ensures answer { result ≡ (if eqb others 0 then Answered 0 else write_answer (update_size V.kind (state_of self.now [] [] [])) (length place.old)) }
-        ensures place { place.new ≡ (if eqb others 0 then place.old else write_place (update_size V.kind (state_of self.now [] [] [])) (update_frame V.kind (record { sites = self.now.sites; sender = self.now.site; register = r; number = self.now.written + 1; matrix = matrix.now; value = value })) place.old) }
+        ensures answer { result ≡ (if others == 0 then Answered 0 else write_answer (update_size V.kind (state_of self.now [] [] [])) (length place.old)) }
+        ensures place { place.new ≡ (if others == 0 then place.old else write_place (update_size V.kind (state_of self.now [] [] [])) (update_frame V.kind (record { sites = self.now.sites; sender = self.now.site; register = r; number = self.now.written + 1; matrix = matrix.now; value = value })) place.old) }
     {
         if others == 0 {
             return Ok(0);

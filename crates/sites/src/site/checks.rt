@@ -20,7 +20,7 @@ use waiting::need::Need;
 
 impl Site {
     // Are n, R and the lengths of the tables those of the placement and of the opening?
-    pub fn fits<P: Homes>(
+    pub(crate) fn fits<P: Homes>(
         &self,
         placement: &P,
         copies: &[Replica],
@@ -37,7 +37,7 @@ impl Site {
     }
 
     // Is register r held here?
-    pub fn holds<P: Homes>(&self, placement: &P, r: u16) -> bool
+    pub(crate) fn holds<P: Homes>(&self, placement: &P, r: u16) -> bool
         requires { P.Placement.count placement.now ≡ self.now.sites }
         ensures { result ≡ P.Placement.held placement.now r self.now.site }
     {
@@ -45,7 +45,7 @@ impl Site {
     }
 
     // May this idle session work on register r?
-    pub fn idle_here(&self, session: &Idle, r: u16) -> Result<(), Fault>
+    pub(crate) fn idle_here(&self, session: &Idle, r: u16) -> Result<(), Fault>
         ensures { result ≡ idle_here (state_of self.now [] [] []) (idle session.now) r }
     {
         if session.site != self.site || session.fetched != self.fetched {
@@ -61,7 +61,7 @@ impl Site {
     }
 
     // Is this awaiting session that of the fetch that is out?
-    pub fn awaited(&self, session: &Awaiting) -> Result<(), Fault>
+    pub(crate) fn awaited(&self, session: &Awaiting) -> Result<(), Fault>
         ensures { result ≡ awaited (state_of self.now [] [] []) (awaiting session.now) }
     {
         if session.site != self.site || session.fetched != self.fetched {
@@ -74,7 +74,7 @@ impl Site {
     }
 
     // Does no waiting update hold a number out of range?
-    pub fn updates_ok<V: ValueKind + Drop>(&self, updates: &[WaitingUpdate]) -> bool
+    pub(crate) fn updates_ok<V: ValueKind + Drop>(&self, updates: &[WaitingUpdate]) -> bool
         requires { length updates.now ≡ self.now.update_places }
         ensures { result ≡ updates_ok V.kind (state_of self.now [] updates.now []) }
     {
@@ -88,7 +88,7 @@ impl Site {
     }
 
     // Does no waiting fetch hold a number out of range?
-    pub fn fetches_ok(&self, fetches: &[WaitingFetch]) -> bool
+    pub(crate) fn fetches_ok(&self, fetches: &[WaitingFetch]) -> bool
         requires { length fetches.now ≡ self.now.fetch_places }
         ensures { result ≡ fetches_ok (state_of self.now [] [] fetches.now) }
     {
@@ -96,7 +96,7 @@ impl Site {
     }
 
     // Where the oldest item stands that is ready, in a list of this site. The list is only looked at.
-    pub fn oldest<T: Need + Copy>(&self, places: &mut [T], count: usize) -> Option<usize>
+    pub(crate) fn oldest<T: Need + Copy>(&self, places: &mut [T], count: usize) -> Option<usize>
         requires { count ≤ length places.old }
         ensures found { result ≡ first_where (λ y. ready self.now.sites self.now.applied.counts (T.Need.needed y self.now.sites self.now.site)) 0 (take count places.old) }
         ensures within { IfSome result (λ i. i < count) }

@@ -1,5 +1,5 @@
 // Frames of 2, 5 and 8 sites with each value kind: they read back, and a byte more or less is refused at bit 8.
-ghost use Rattle.std.specs.Prelude.{◌≤◌};
+ghost use Rattle.std.specs.Prelude.{◌≤◌, IfOk, IsTrue};
 
 use clocks::matrix::Matrix;
 use clocks::row::Row;
@@ -7,7 +7,6 @@ use frames::fetch::{read_fetch, write_fetch};
 use frames::message::{Fetch, Reply, Update};
 use frames::reply::{read_reply, write_reply};
 use frames::update::{read_update, write_update};
-use std::process::Abort;
 use std::test::Fail;
 use values::block::Block;
 use values::coefficient::Coefficient;
@@ -30,7 +29,18 @@ fn matrix() -> Matrix {
     Matrix { counts }
 }
 
-fn update_trip<V: ValueKind + Drop>(rt: &impl Abort, n: u8, value: V) -> Result<(), Fail>
+// Fails the test unless this holds.
+fn check(holds: bool) -> Result<(), &'static str>
+    ensures { IfOk result (λ _. IsTrue holds) }
+{
+    if holds {
+        Ok(())
+    } else {
+        Err("a check of the test fails")
+    }
+}
+
+fn update_trip<V: ValueKind + Drop>(n: u8, value: V) -> Result<(), Fail>
     requires { n ≤ 8 }
 {
     let mut place = [0xee; 256];
@@ -43,19 +53,19 @@ fn update_trip<V: ValueKind + Drop>(rt: &impl Abort, n: u8, value: V) -> Result<
         value,
     };
     let size = write_update(&message, &mut place)?;
-    assert!(rt; 1 < size && size < 256);
-    assert_eq!(rt; place[size], 0xee);
+    check(1 < size && size < 256)?;
+    check(place[size] == 0xee)?;
     let mut again = [0xee; 256];
     let back = read_update::<V>(&place[0..size])?;
-    assert!(rt; back.sites <= 8);
-    assert_eq!(rt; write_update(&back, &mut again), Ok(size));
-    assert_eq!(rt; again, place);
-    assert_eq!(rt; read_update::<V>(&place[0..size - 1]).err(), Some(LENGTH));
-    assert_eq!(rt; read_update::<V>(&place[0..size + 1]).err(), Some(LENGTH));
+    check(back.sites <= 8)?;
+    check(write_update(&back, &mut again) == Ok(size))?;
+    check(again == place)?;
+    check(read_update::<V>(&place[0..size - 1]).err() == Some(LENGTH))?;
+    check(read_update::<V>(&place[0..size + 1]).err() == Some(LENGTH))?;
     Ok(())
 }
 
-fn fetch_trip(rt: &impl Abort, n: u8) -> Result<(), Fail>
+fn fetch_trip(n: u8) -> Result<(), Fail>
     requires { n ≤ 8 }
 {
     let mut place = [0xee; 256];
@@ -71,24 +81,19 @@ fn fetch_trip(rt: &impl Abort, n: u8) -> Result<(), Fail>
         column,
     };
     let size = write_fetch(&message, &mut place)?;
-    assert!(rt; 1 < size && size < 256);
-    assert_eq!(rt; place[size], 0xee);
+    check(1 < size && size < 256)?;
+    check(place[size] == 0xee)?;
     let mut again = [0xee; 256];
     let back = read_fetch(&place[0..size])?;
-    assert!(rt; back.sites <= 8);
-    assert_eq!(rt; write_fetch(&back, &mut again), Ok(size));
-    assert_eq!(rt; again, place);
-    assert_eq!(rt; read_fetch(&place[0..size - 1]).err(), Some(LENGTH));
-    assert_eq!(rt; read_fetch(&place[0..size + 1]).err(), Some(LENGTH));
+    check(back.sites <= 8)?;
+    check(write_fetch(&back, &mut again) == Ok(size))?;
+    check(again == place)?;
+    check(read_fetch(&place[0..size - 1]).err() == Some(LENGTH))?;
+    check(read_fetch(&place[0..size + 1]).err() == Some(LENGTH))?;
     Ok(())
 }
 
-fn reply_trip<V: ValueKind + Drop>(
-    rt: &impl Abort,
-    n: u8,
-    label: Option<(u8, u32)>,
-    value: V,
-) -> Result<(), Fail>
+fn reply_trip<V: ValueKind + Drop>(n: u8, label: Option<(u8, u32)>, value: V) -> Result<(), Fail>
     requires { n ≤ 8 }
 {
     let mut place = [0xee; 256];
@@ -103,16 +108,16 @@ fn reply_trip<V: ValueKind + Drop>(
         value,
     };
     let size = write_reply(&message, &mut place)?;
-    assert!(rt; 1 < size && size < 256);
-    assert_eq!(rt; place[size], 0xee);
+    check(1 < size && size < 256)?;
+    check(place[size] == 0xee)?;
     let mut again = [0xee; 256];
     let back = read_reply::<V>(&place[0..size])?;
-    assert!(rt; back.sites <= 8);
-    assert_eq!(rt; back.label, label);
-    assert_eq!(rt; write_reply(&back, &mut again), Ok(size));
-    assert_eq!(rt; again, place);
-    assert_eq!(rt; read_reply::<V>(&place[0..size - 1]).err(), Some(LENGTH));
-    assert_eq!(rt; read_reply::<V>(&place[0..size + 1]).err(), Some(LENGTH));
+    check(back.sites <= 8)?;
+    check(back.label == label)?;
+    check(write_reply(&back, &mut again) == Ok(size))?;
+    check(again == place)?;
+    check(read_reply::<V>(&place[0..size - 1]).err() == Some(LENGTH))?;
+    check(read_reply::<V>(&place[0..size + 1]).err() == Some(LENGTH))?;
     Ok(())
 }
 
@@ -136,33 +141,28 @@ fn mode() -> Mode {
 }
 
 #[test]
-fn updates(rt: HostRuntime) -> Result<(), Fail> {
+fn updates() -> Result<(), Fail> {
     for n in [2, 5, 8] {
-        update_trip(&rt, n, Coefficient { value: COEFFICIENT })?;
-        update_trip(&rt, n, block())?;
-        update_trip(&rt, n, mode())?;
+        update_trip(n, Coefficient { value: COEFFICIENT })?;
+        update_trip(n, block())?;
+        update_trip(n, mode())?;
     }
     Ok(())
 }
 
 #[test]
-fn fetches(rt: HostRuntime) -> Result<(), Fail> {
-    fetch_trip(&rt, 2)?;
-    fetch_trip(&rt, 5)?;
-    fetch_trip(&rt, 8)
+fn fetches() -> Result<(), Fail> {
+    fetch_trip(2)?;
+    fetch_trip(5)?;
+    fetch_trip(8)
 }
 
 #[test]
-fn replies(rt: HostRuntime) -> Result<(), Fail> {
+fn replies() -> Result<(), Fail> {
     for n in [2, 5, 8] {
-        reply_trip(
-            &rt,
-            n,
-            Some((1, 16_777_215)),
-            Coefficient { value: COEFFICIENT },
-        )?;
-        reply_trip(&rt, n, None, block())?;
-        reply_trip(&rt, n, Some((0, 1)), mode())?;
+        reply_trip(n, Some((1, 16_777_215)), Coefficient { value: COEFFICIENT })?;
+        reply_trip(n, None, block())?;
+        reply_trip(n, Some((0, 1)), mode())?;
     }
     Ok(())
 }

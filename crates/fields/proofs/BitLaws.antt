@@ -7,11 +7,6 @@ use Rattle.fields.specs.Bits.{odd, bits, bit, num}
 
 -- one bit
 
-bit_lt : (b : Bool) → bit b < 2
-unfolding bit
-bit_lt true = omega arith
-bit_lt false = omega arith
-
 odd_bit : (b : Bool) → odd (bit b) ≡ b
 unfolding bit odd
 odd_bit true = refl
@@ -57,13 +52,11 @@ bits_mod (suc w) j n =
     let t : bits w (n % 2 ^ (suc w + j)) ≡ bits w n = ap (λ k. bits w (n % 2 ^ k)) d ∙ bits_mod w (j + 1) n in
     ap₂ (λ x xs. x ∷ xs) h t
 
-pub bits_low : (w hi lo : ℕ) → lo < 2 ^ w → bits w (hi * 2 ^ w + lo) ≡ bits w lo
-bits_low w hi lo h =
-    let m : (hi * 2 ^ w + lo) % 2 ^ (w + 0) ≡ lo = rw add-zero (mod_low hi w lo h) in
-    sym (bits_mod w 0 (hi * 2 ^ w + lo)) ∙ ap (bits w) m
-
 pub bits_last : (w n : ℕ) → bits w (n % 2 ^ w) ≡ bits w n
 bits_last w n = rw add-zero at (bits_mod w 0 n)
+
+pub bits_low : (w hi lo : ℕ) → lo < 2 ^ w → bits w (hi * 2 ^ w + lo) ≡ bits w lo
+bits_low w hi lo h = sym (bits_last w (hi * 2 ^ w + lo)) ∙ ap (bits w) (mod_low hi w lo h)
 
 pub bits_split : (h k s n : ℕ) → bits (h + (k + s)) n ≡ bits h (n / 2 ^ (k + s)) ++ (bits k (n / 2 ^ s) ++ bits s n)
 bits_split h k s n = bits_append h (k + s) n ∙ ap (λ l. bits h (n / 2 ^ (k + s)) ++ l) (bits_append k s n)
@@ -92,8 +85,7 @@ bits_num [] = refl
 bits_num (b ∷ bs) =
     let L = length bs in
     let h : odd ((bit b * 2 ^ L + num bs) / 2 ^ L) ≡ b = ap odd (shr_high (bit b) L (num bs) (num_lt bs)) ∙ odd_bit b in
-    let m : (bit b * 2 ^ L + num bs) % 2 ^ (L + 0) ≡ num bs = rw add-zero (mod_low (bit b) L (num bs) (num_lt bs)) in
-    ap₂ (λ x xs. x ∷ xs) h (sym (bits_mod L 0 (bit b * 2 ^ L + num bs)) ∙ ap (bits L) m ∙ bits_num bs)
+    ap₂ (λ x xs. x ∷ xs) h (bits_low L (bit b) (num bs) (num_lt bs) ∙ bits_num bs)
 
 pub num_bits : (w n : ℕ) → num (bits w n) ≡ n % 2 ^ w
 unfolding bits num

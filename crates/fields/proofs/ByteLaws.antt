@@ -1,42 +1,40 @@
 -- Laws of bits_of and bytes_by: bytes and their bits are inverse to each other, and a byte that changes in one field
 -- changes the bits of its slice in that field. By induction on the bytes.
-use Rattle.std.proofs.Common.{◌≡◌, ℕ, zero, suc, ◌+◌, ◌-◌, ◌*◌, ◌/◌, ◌%◌, ◌^◌, ◌<◌, ◌≤◌, Bool, List, [], ◌∷◌, ◌++◌, length, get_or, take, drop, set, sym, refl, ap, ◌∙◌, ap₂, zero-le, mod-eq_of_lt, mul_assoc, mul_comm, add-mul, suc-add, zero-add, arith, length-append, length-drop, length-take}
+use Rattle.std.proofs.Common.{◌≡◌, ℕ, zero, suc, ◌+◌, ◌*◌, ◌/◌, ◌%◌, ◌^◌, ◌<◌, ◌≤◌, Bool, List, [], ◌∷◌, ◌++◌, length, take, drop, sym, refl, ap, ◌∙◌, ap₂, append_assoc, zero-le, mod-eq_of_lt, mul_assoc, add-mul, suc-add, zero-add, arith, length-append, length-drop, length-take}
 use Rattle.std.proofs.lemmas.List.{nil_from_length, drop_at, take_at, take-append-le, drop-append-le, drop_all, drop-drop, take-append-drop}
-use Rattle.std.proofs.lemmas.Nat.{mul-add-lt, mod_below, pow_pos, pow-add, shr_high}
+use Rattle.std.proofs.lemmas.Nat.{mod_below, pow_pos, pow-add, shr_high}
 use Rattle.std.proofs.ByRecursion.{All-drop}
 use Rattle.std.specs.List.{AllByRecursion}
 use Rattle.fields.specs.Bits.{bits, num, bits_of, bytes_by}
 use Rattle.fields.specs.Fields.{splice}
 use Rattle.fields.proofs.BitLaws.{bits_length, bits_low, bits_last, bits_split, bits_num, num_bits}
-use Rattle.fields.proofs.SpliceLaws.{splice_skip, splice_mid, splice_within}
+use Rattle.fields.proofs.Masks.{field_room}
+use Rattle.fields.proofs.SpliceLaws.{splice_mid}
 
--- one byte
+-- one number
 
--- a field of a byte
-pub byte_field : (b j k s : ℕ) → j + (k + s) ≡ 8 → take k (drop j (bits 8 b)) ≡ bits k (b / 2 ^ s)
-byte_field b j k s e =
-    let q : bits 8 b ≡ bits j (b / 2 ^ (k + s)) ++ (bits k (b / 2 ^ s) ++ bits s b) = ap (λ w. bits w b) (sym e) ∙ bits_split j k s b in
-    ap (λ l. take k (drop j l)) q ∙ rw (drop_at (bits j (b / 2 ^ (k + s))) (bits k (b / 2 ^ s) ++ bits s b) j (bits_length j (b / 2 ^ (k + s)))) (take_at (bits k (b / 2 ^ s)) (bits s b) k (bits_length k (b / 2 ^ s)))
+-- a field of a number's bits
+pub part_of_bits : (w n j k s : ℕ) → j + (k + s) ≡ w → take k (drop j (bits w n)) ≡ bits k (n / 2 ^ s)
+part_of_bits w n j k s e =
+    let q : bits w n ≡ bits j (n / 2 ^ (k + s)) ++ (bits k (n / 2 ^ s) ++ bits s n) = ap (λ z. bits z n) (sym e) ∙ bits_split j k s n in
+    ap (λ l. take k (drop j l)) q ∙ rw (drop_at (bits j (n / 2 ^ (k + s))) (bits k (n / 2 ^ s) ++ bits s n) j (bits_length j (n / 2 ^ (k + s)))) (take_at (bits k (n / 2 ^ s)) (bits s n) k (bits_length k (n / 2 ^ s)))
 
--- a byte with another field of k bits above its last s
-pub patched : (b x k s : ℕ) → k + s ≤ 8 → x < 2 ^ k → bits 8 (b / 2 ^ (k + s) * 2 ^ (k + s) + (x * 2 ^ s + b % 2 ^ s)) ≡ splice (bits 8 b) (8 - (k + s)) (bits k x)
-patched b x k s h lt =
-    let H = 8 - (k + s) in
+-- a number with another field of k bits above its last s
+pub patched : (w b x k s j : ℕ) → j + (k + s) ≡ w → x < 2 ^ k → bits w (b / 2 ^ (k + s) * 2 ^ (k + s) + (x * 2 ^ s + b % 2 ^ s)) ≡ splice (bits w b) j (bits k x)
+patched w b x k s j e lt =
     let hi = b / 2 ^ (k + s) in
     let lo = b % 2 ^ s in
     let n = hi * 2 ^ (k + s) + (x * 2 ^ s + lo) in
-    let e : H + (k + s) ≡ 8 = omega arith in
     let p : 2 ^ (k + s) ≡ 2 ^ k * 2 ^ s = pow-add 2 k s in
     let lo< : lo < 2 ^ s = mod_below b (2 ^ s) (pow_pos s) in
-    let mid< : x * 2 ^ s + lo < 2 ^ (k + s) = rw (p, mul_comm (2 ^ k) (2 ^ s)) (mul-add-lt x (2 ^ s) lo (2 ^ k) lt lo<) in
     let n_is : n ≡ (hi * 2 ^ k + x) * 2 ^ s + lo = rw p (omega (arith, add-mul (hi * 2 ^ k) x (2 ^ s), mul_assoc hi (2 ^ k) (2 ^ s))) in
-    let top : n / 2 ^ (k + s) ≡ hi = shr_high hi (k + s) (x * 2 ^ s + lo) mid< in
+    let top : n / 2 ^ (k + s) ≡ hi = shr_high hi (k + s) (x * 2 ^ s + lo) (field_room b x k s lt) in
     let mid : bits k (n / 2 ^ s) ≡ bits k x = ap (λ m. bits k (m / 2 ^ s)) n_is ∙ ap (bits k) (shr_high (hi * 2 ^ k + x) s lo lo<) ∙ bits_low k hi x lt in
     let bot : bits s n ≡ bits s b = ap (bits s) n_is ∙ bits_low s (hi * 2 ^ k + x) lo lo< ∙ bits_last s b in
-    let left : bits 8 n ≡ bits H hi ++ (bits k x ++ bits s b) = ap (λ w. bits w n) (sym e) ∙ bits_split H k s n ∙ rw (top, mid, bot) in
-    let right : bits 8 b ≡ bits H hi ++ (bits k (b / 2 ^ s) ++ bits s b) = ap (λ w. bits w b) (sym e) ∙ bits_split H k s b in
-    let m = splice_mid (bits H hi) (bits k (b / 2 ^ s)) (bits s b) (bits k x) (bits_length k (b / 2 ^ s) ∙ sym (bits_length k x)) in
-    left ∙ sym (ap₂ (λ l z. splice l z (bits k x)) right (sym (bits_length H hi)) ∙ m)
+    let left : bits w n ≡ bits j hi ++ (bits k x ++ bits s b) = ap (λ z. bits z n) (sym e) ∙ bits_split j k s n ∙ rw (top, mid, bot) in
+    let right : bits w b ≡ bits j hi ++ (bits k (b / 2 ^ s) ++ bits s b) = ap (λ z. bits z b) (sym e) ∙ bits_split j k s b in
+    let m = splice_mid (bits j hi) (bits k (b / 2 ^ s)) (bits s b) (bits k x) (bits_length k (b / 2 ^ s) ∙ sym (bits_length k x)) in
+    left ∙ sym (ap₂ (λ l z. splice l z (bits k x)) right (sym (bits_length j hi)) ∙ m)
 
 -- bits_of
 
@@ -45,27 +43,15 @@ unfolding bits_of
 bits_of_length [] = refl
 bits_of_length (b ∷ bs) = rw (length-append (bits 8 b) (bits_of bs), bits_length 8 b, bits_of_length bs) (omega arith)
 
-pub bits_of_set : (bs : List ℕ) (i b j : ℕ) (ys : List Bool) → i < length bs → j + length ys ≤ 8 → bits 8 b ≡ splice (bits 8 (get_or bs i 0)) j ys → bits_of (set bs i b) ≡ splice (bits_of bs) (8 * i + j) ys
+pub bits_of_append : (bs cs : List ℕ) → bits_of (bs ++ cs) ≡ bits_of bs ++ bits_of cs
 unfolding bits_of
-bits_of_set [] i b j ys h f e = absurd (omega arith)
-bits_of_set (c ∷ bs) zero b j ys h f e =
-    let f₁ : j + length ys ≤ length (bits 8 c) = rw (bits_length 8 c) f in
-    rw (zero-add, e) (sym (splice_within (bits 8 c) (bits_of bs) ys j f₁))
-bits_of_set (c ∷ bs) (suc i) b j ys h f e =
-    let d : 8 * suc i + j ≡ length (bits 8 c) + (8 * i + j) = rw (bits_length 8 c) (omega arith) in
-    rw (d, splice_skip (bits 8 c) (bits_of bs) ys (8 * i + j)) (ap (λ l. bits 8 c ++ l) (bits_of_set bs i b j ys (omega arith) f e))
+bits_of_append [] cs = refl
+bits_of_append (b ∷ bs) cs = rw (bits_of_append bs cs) (sym (append_assoc (bits 8 b) (bits_of bs) (bits_of cs)))
 
-pub bits_of_get : (bs : List ℕ) (i j k : ℕ) → i < length bs → j + k ≤ 8 → take k (drop (8 * i + j) (bits_of bs)) ≡ take k (drop j (bits 8 (get_or bs i 0)))
-unfolding bits_of
-bits_of_get [] i j k h f = absurd (omega arith)
-bits_of_get (c ∷ bs) zero j k h f =
-    let l : length (bits 8 c) ≡ 8 = bits_length 8 c in
-    let f₁ : j ≤ length (bits 8 c) = omega arith in
-    let f₂ : k ≤ length (drop j (bits 8 c)) = rw (length-drop j (bits 8 c)) (omega arith) in
-    rw (zero-add, drop-append-le j (bits 8 c) (bits_of bs) f₁) (take-append-le k (drop j (bits 8 c)) (bits_of bs) f₂)
-bits_of_get (c ∷ bs) (suc i) j k h f =
-    let d : 8 * suc i + j ≡ 8 + (8 * i + j) = omega arith in
-    rw (d, ← drop-drop (8 * i + j) 8 (bits 8 c ++ bits_of bs), drop_at (bits 8 c) (bits_of bs) 8 (bits_length 8 c)) (bits_of_get bs i j k (omega arith) f)
+pub bits_of_take : (n : ℕ) (bs : List ℕ) → n ≤ length bs → bits_of (take n bs) ≡ take (8 * n) (bits_of bs)
+bits_of_take n bs h =
+    let len : length (bits_of (take n bs)) ≡ 8 * n = rw (bits_of_length (take n bs)) (omega (arith, length-take n bs)) in
+    sym (ap (take (8 * n)) (ap bits_of (sym (take-append-drop n bs)) ∙ bits_of_append (take n bs) (drop n bs)) ∙ take_at (bits_of (take n bs)) (bits_of (drop n bs)) (8 * n) len)
 
 pub bits_of_drop : (n : ℕ) (bs : List ℕ) → drop (8 * n) (bits_of bs) ≡ bits_of (drop n bs)
 unfolding bits_of

@@ -1,7 +1,9 @@
 -- Reading and putting are inverse to each other, and neither touches another field: a splice is cut into what lies
 -- before the field, the field and what lies behind, and each part is compared.
 use Rattle.std.proofs.Common.{◌≡◌, ℕ, ◌+◌, ◌-◌, ◌*◌, ◌^◌, ◌<◌, ◌≤◌, Bool, List, ◌++◌, length, take, drop, sym, refl, ap, ◌∙◌, lt_of_lt_of_le, arith, length-drop, length-take, pow_mono}
-use Rattle.std.proofs.lemmas.List.{drop_at, take_at, take-append-le, drop-append-le, drop-drop, take-append-drop, take-take, drop-take}
+use Rattle.std.proofs.lemmas.List.{drop_at, take_at, drop-drop, take-append-drop, take-take, drop-take}
+use Rattle.std.proofs.lemmas.Slice.{take-put_mid_below, drop-put_mid}
+use borrow.Rule.Slice.PartMut.{put_mid}
 use Rattle.fields.specs.Bits.{bits, num}
 use Rattle.fields.specs.Fields.{run, field, splice, row, numbers, ReadsWhatWasPut, PutsWhatWasRead, KeepsOthers, ReadsTheRowPut, PutsTheRowRead}
 use Rattle.fields.proofs.BitLaws.{bits_length, bits_num, num_bits, num_lt}
@@ -48,35 +50,19 @@ reads_what_was_put bs at w n h = ap num (run_splice bs (bits w n) at w (bits_len
 pub puts_what_was_read : PutsWhatWasRead
 puts_what_was_read bs at w h = ap (splice bs at) (bits_field bs at w h) ∙ splice_run bs at w h
 
--- a run that ends before the rest begins
-run_front : (p q : List Bool) (from w : ℕ) → from + w ≤ length p → run (p ++ q) from w ≡ run p from w
-run_front p q from w h =
-    let a : from ≤ length p = omega arith in
-    let b : w ≤ length (drop from p) = simp length-drop (omega arith) in
-    ap (take w) (drop-append-le from p q a) ∙ take-append-le w (drop from p) q b
+-- a splice as std has it
+splice_is : (bs ys : List Bool) (at : ℕ) → splice bs at ys ≡ put_mid at (length ys) bs ys
+unfolding splice
+splice_is bs ys at = ap (λ r. take at bs ++ (ys ++ r)) (sym (drop-drop (length ys) at bs))
 
 before : (bs ys : List Bool) (at from w : ℕ) → from + w ≤ at → at + length ys ≤ length bs → run (splice bs at ys) from w ≡ run bs from w
-unfolding splice
 before bs ys at from w h f =
-    let l : from + w ≤ length (take at bs) = simp length-take (omega arith) in
-    run_front (take at bs) (ys ++ drop (at + length ys) bs) from w l
-    ∙ sym (run_front (take at bs) (drop at bs) from w l)
-    ∙ ap (λ l. run l from w) (take-append-drop at bs)
+    sym (run_take (splice bs at ys) from w at h)
+    ∙ ap (λ l. run l from w) (ap (take at) (splice_is bs ys at) ∙ take-put_mid_below at (length ys) bs ys at (omega arith) (omega arith))
+    ∙ run_take bs from w at h
 
 behind : (bs ys : List Bool) (at from w : ℕ) → at + length ys ≤ from → at + length ys ≤ length bs → run (splice bs at ys) from w ≡ run bs from w
-behind bs ys at from w h f =
-    let m = at + length ys in
-    let d : from ≡ at + (length ys + (from - (at + length ys))) = omega arith in
-    let e : from ≡ at + length ys + (from - (at + length ys)) = omega arith in
-    let s = splice bs at ys in
-    ap (λ n. run s n w) d
-    ∙ ap (take w)
-    (sym (drop-drop (length ys + (from - m)) at s)
-    ∙ ap (drop (length ys + (from - m))) (drop_splice bs ys at (omega arith))
-    ∙ sym (drop-drop (from - m) (length ys) (ys ++ drop m bs))
-    ∙ ap (drop (from - m)) (drop_at ys (drop m bs) (length ys) refl)
-    ∙ drop-drop (from - m) m bs
-    ∙ ap (λ n. drop n bs) (sym e))
+behind bs ys at from w h f = ap (take w) (ap (drop from) (splice_is bs ys at) ∙ drop-put_mid at (length ys) bs ys from h (omega arith) refl)
 
 pub keeps_others : KeepsOthers
 keeps_others = (before, behind)

@@ -3,10 +3,11 @@
 use Rattle.std.proofs.Common.{◌≡◌, ℕ, zero, suc, ◌+◌, ◌*◌, ◌^◌, ◌<◌, ◌≤◌, Bool, List, [], ◌∷◌, ◌++◌, length, get_or, take, drop, set, sym, refl, ap, ◌∙◌, ap₂, append_assoc, mod-eq_of_lt, suc-add, mul-le-mul_left, mul-zero, mul-suc, arith, length-append, length-drop, length-take, take-add}
 use Rattle.std.proofs.lemmas.List.{take_at, drop_at, drop-drop, take_more, take_more_set, append-nil}
 use Rattle.std.specs.List.{AllByRecursion}
-use Rattle.fields.specs.Bits.{bits, num}
+use Rattle.fields.specs.Bits.{bits, num, bits_of}
 use Rattle.fields.specs.Fields.{splice, row, numbers}
 use Rattle.fields.proofs.BitLaws.{bits_length, num_bits, bits_num, num_lt}
-use Rattle.fields.proofs.SpliceLaws.{splice_splice, splice_none}
+use Rattle.fields.proofs.ByteLaws.{bits_of_length}
+use Rattle.fields.proofs.SpliceLaws.{splice_splice}
 
 module _ (w : ℕ) where
   pub row_length : (xs : List ℕ) → length (row w xs) ≡ w * length xs
@@ -65,23 +66,16 @@ module _ (w : ℕ) where
       rw (d, take-add w (w * n) bs, b, row_numbers n (drop w bs) (rw (length-drop w bs) (omega arith)))
 
   -- one turn of put_row
-  pub put_next : (B P Q : List Bool) (xs : List ℕ) (at i : ℕ) → i < length xs → at + w * length xs ≤ length B → P ≡ splice B at (row w (take i xs)) → Q ≡ splice P (at + w * i) (bits w (get_or xs i 0)) → Q ≡ splice B at (row w (take (i + 1) xs))
-  put_next B P Q xs at i h f e q =
+  pub put_next : (place xs : List ℕ) (at i : ℕ) → i < length xs → at + w * length xs ≤ 8 * length place
+      → splice (splice (bits_of place) at (row w (take i xs))) (at + w * i) (bits w (get_or xs i 0)) ≡ splice (bits_of place) at (row w (take (i + 1) xs))
+  put_next place xs at i h f =
+      let B = bits_of place in
       let li : length (take i xs) ≡ i = simp length-take (omega arith) in
       let L : length (row w (take i xs)) ≡ w * i = row_length (take i xs) ∙ ap (λ n. w * n) li in
       let m : w * i ≤ w * length xs = mul-le-mul_left w (omega arith) in
-      let fits : at + length (row w (take i xs)) ≤ length B = omega arith in
-      let z : at + w * i ≡ at + length (row w (take i xs)) = omega arith in
-      q ∙ ap₂ (λ l n. splice l n (bits w (get_or xs i 0))) e z ∙ splice_splice B (row w (take i xs)) (bits w (get_or xs i 0)) at fits
+      ap (λ n. splice (splice B at (row w (take i xs))) (at + n) (bits w (get_or xs i 0))) (sym L)
+      ∙ splice_splice B (row w (take i xs)) (bits w (get_or xs i 0)) at (omega (arith, bits_of_length place))
       ∙ ap (splice B at) (sym (row_push (take i xs) (get_or xs i 0)) ∙ ap (row w) (sym (take_more xs i 0 h)))
-
-  pub put_none : (B : List Bool) (at : ℕ) (xs : List ℕ) → B ≡ splice B at (row w (take 0 xs))
-  unfolding row
-  put_none B at xs = sym (splice_none B at)
-
-  pub get_none : (bs : List Bool) → ◌≡◌ {A = List ℕ} [] (numbers w 0 bs)
-  unfolding numbers
-  get_none bs = refl
 
   -- one turn of get_row
   pub get_next : (out : List ℕ) (B : List Bool) (at i v : ℕ) → i < length out → take i out ≡ numbers w i (drop at B) → v ≡ num (take w (drop (at + w * i) B)) → take (i + 1) (set out i v) ≡ numbers w (i + 1) (drop at B)

@@ -1,6 +1,6 @@
 -- Laws of splice: what lies before stays before, two parts laid one after the other are their join laid at once.
 -- By induction on what lies before the part.
-use Rattle.std.proofs.Common.{◌≡◌, ℕ, zero, suc, ◌+◌, ◌≤◌, Bool, List, [], ◌∷◌, ◌++◌, length, take, drop, ap, ◌∙◌, append_assoc, add-zero, suc-add, zero-add, arith, length-append, length-drop, length-take}
+use Rattle.std.proofs.Common.{◌≡◌, ℕ, zero, suc, ◌+◌, ◌≤◌, Bool, List, [], ◌∷◌, ◌++◌, length, take, drop, ap, ◌∙◌, append_assoc, add-zero, suc-add, zero-add, arith, length-append, length-take, length-drop}
 use Rattle.std.proofs.lemmas.List.{drop_at, take-append-le, drop-append-le, drop-drop, take-append-drop}
 use Rattle.fields.specs.Fields.{splice}
 
@@ -32,12 +32,12 @@ splice_splice (x ∷ xs) ys zs (suc n) h =
     rw (splice_cons x xs ys n, suc-add n (length ys), splice_cons x (splice xs n ys) zs (n + length ys), splice_cons x xs (ys ++ zs) n)
     (ap (λ l. x ∷ l) (splice_splice xs ys zs n (omega arith)))
 
+pub splice_mid : (p q r ys : List Bool) → length q ≡ length ys → splice (p ++ (q ++ r)) (length p) ys ≡ p ++ (ys ++ r)
+splice_mid p q r ys e = rw (splice_after p (q ++ r) ys, splice_front (q ++ r) ys, drop_at q r (length ys) e)
+
 pub splice_length : (xs ys : List Bool) (n : ℕ) → n + length ys ≤ length xs → length (splice xs n ys) ≡ length xs
 unfolding splice
 splice_length xs ys n h = simp (length-append, length-take, length-drop) (omega arith)
-
-pub splice_mid : (p q r ys : List Bool) → length q ≡ length ys → splice (p ++ (q ++ r)) (length p) ys ≡ p ++ (ys ++ r)
-splice_mid p q r ys e = rw (splice_after p (q ++ r) ys, splice_front (q ++ r) ys, drop_at q r (length ys) e)
 
 pub splice_within : (p r ys : List Bool) (n : ℕ) → n + length ys ≤ length p → splice (p ++ r) n ys ≡ splice p n ys ++ r
 unfolding splice

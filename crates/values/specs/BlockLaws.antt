@@ -1,5 +1,5 @@
 -- Blocks keep the law of a value kind: two's complement of 16 bits is inverse both ways, and so is a row of eight.
-use Rattle.std.specs.Prelude.{◌≡◌, ℕ, ◌*◌, ◌^◌, ◌<◌, ◌≤◌, Bool, false, List, [], ◌∷◌, ◌++◌, length, take, replicate, Ok, slice_index}
+use Rattle.std.specs.Prelude.{◌≡◌, ℕ, ℤ, ◌*◌, ◌^◌, ◌<◌, ◌≤◌, Bool, false, List, [], ◌∷◌, ◌++◌, length, take, replicate, Ok, slice_index}
 use Rattle.std.proofs.Common.{sym, ap, ◌∙◌, arith, of_z, to_z}
 use mathlib.Core.HLevel.{is_prop→PathP}
 use Rattle.std.proofs.Math.Bridge.{le_prop}
@@ -43,6 +43,10 @@ same_block x y p0 p1 p2 p3 p4 p5 p6 p7 =
 complement_of : (n : ℕ) → n < 2 ^ 16 → of_z w16 (to_z w16 n) ≡ n
 complement_of n h = of_z-to_z w16 n h
 
+-- and a sample is what its complement stands for
+pub sample_again : (z : ℤ) → mag z < 2 ^ 15 → to_z w16 (of_z w16 z) ≡ z
+sample_again z h = to_z-of_z w16 z (record { sfits = h })
+
 samples_of : (a b c d e f g h : ℕ) → AllByRecursion (λ n. n < 2 ^ 16) (a ∷ b ∷ c ∷ d ∷ e ∷ f ∷ g ∷ h ∷ []) → samples (block_of (a ∷ b ∷ c ∷ d ∷ e ∷ f ∷ g ∷ h ∷ [])) ≡ a ∷ b ∷ c ∷ d ∷ e ∷ f ∷ g ∷ h ∷ []
 samples_of a b c d e f g h s =
     let e0 = complement_of a s.0 in
@@ -71,14 +75,14 @@ samples_small v =
 of_samples : (v : Block) → block_of (samples v) ≡ v
 of_samples v =
     same_block (block_of (samples v)) v
-    (to_z-of_z w16 v.first (record { sfits = v.first_fits }))
-    (to_z-of_z w16 v.second (record { sfits = v.second_fits }))
-    (to_z-of_z w16 v.third (record { sfits = v.third_fits }))
-    (to_z-of_z w16 v.fourth (record { sfits = v.fourth_fits }))
-    (to_z-of_z w16 v.fifth (record { sfits = v.fifth_fits }))
-    (to_z-of_z w16 v.sixth (record { sfits = v.sixth_fits }))
-    (to_z-of_z w16 v.seventh (record { sfits = v.seventh_fits }))
-    (to_z-of_z w16 v.eighth (record { sfits = v.eighth_fits }))
+    (sample_again v.first v.first_fits)
+    (sample_again v.second v.second_fits)
+    (sample_again v.third v.third_fits)
+    (sample_again v.fourth v.fourth_fits)
+    (sample_again v.fifth v.fifth_fits)
+    (sample_again v.sixth v.sixth_fits)
+    (sample_again v.seventh v.seventh_fits)
+    (sample_again v.eighth v.eighth_fits)
 
 -- the samples of the block that eight numbers make
 of_numbers : (bs : List Bool) → length bs ≡ 128 → samples (block_of (numbers 16 8 bs)) ≡ numbers 16 8 bs

@@ -8,7 +8,7 @@
 -- Assumes nothing.
 use Rattle.std.specs.Prelude.{◌≡◌, ℕ, ◌-◌, ◌<◌, ◌≤◌, Bool, false, List, ◌++◌, length, take, replicate, Ok, Err, Result}
 use Rattle.fields.specs.Bits.{bits_of}
-use Rattle.values.specs.Refusals.{of_value}
+use Rattle.values.specs.Refusals.{of_value, place_of}
 use Rattle.values.specs.declared.fault.Fault.{Fault}
 
 pub record Kind (V : Type 0) : Type 0 where
@@ -28,7 +28,7 @@ pub record Lawful {V : Type 0} (k : Kind V) : Type 0 where
   -- bits that read as a value are those that it writes
   pub only : (bs : List Bool) (v : V) → length bs ≡ k.width → k.read bs ≡ Ok v → bs ≡ k.bits v
   -- a refusal has number 16 and names a bit of the value
-  pub refused : (bs : List Bool) (f : Fault) → k.read bs ≡ Err f → (f ≡ of_value f.place) × (f.place < k.width)
+  pub refused : (bs : List Bool) (f : Fault) → k.read bs ≡ Err f → (f ≡ of_value (place_of f)) × (place_of f < k.width)
 
 unfoldable pub plain : {V : Type 0} → Kind V → V → List Bool
 plain k v = k.bits v ++ replicate (256 - k.width) false

@@ -11,44 +11,33 @@ use Rattle.fields.specs.Fields.{splice}
 use Rattle.fields.proofs.BitLaws.{bits_length, num_bits, bits_num}
 use Rattle.fields.proofs.SpliceLaws.{splice_next}
 use Rattle.values.specs.Kinds.{Lawful}
-use Rattle.values.specs.Modes.{channel_if, channel_of, hertz_if, hertz_of, bypass_with, notch_with, tag, argument, mode_of, mode_kind}
-use Rattle.values.specs.Refusals.{of_value}
+use Rattle.values.specs.Modes.{ranged_if, ranged_of, made_with, tag, argument, mode_of, mode_kind}
+use Rattle.values.specs.Refusals.{of_value, place_of}
 use Rattle.values.specs.declared.fault.Fault.{Fault}
-use Rattle.values.specs.declared.mode.Channel.{Channel}
-use Rattle.values.specs.declared.mode.Hertz.{Hertz}
+use Rattle.values.specs.declared.mode.Ranged.{Ranged}
 use Rattle.values.specs.declared.mode.Mode.{Mode}
 use Rattle.values.specs.declared.mode.Mode.TheVariants.{Off, Bypass, Notch}
 use Rattle.values.specs.Plains.{blank, blank_length, over_blank}
 
--- channels and frequencies are their numbers
+-- a number in a range is its number
 
-pub same_channel : (a b : Channel) → a.number ≡ b.number → a ≡ b
-same_channel a b p = λ i. record { number = p i; most = is_prop→PathP (λ j. p j ≤ 15) (λ j. le_prop) a.most b.most i }
+pub same_ranged : {low high : ℕ} (a b : Ranged low high) → a.number ≡ b.number → a ≡ b
+same_ranged {low} {high} a b p = λ i. record { number = p i; least = is_prop→PathP (λ j. low ≤ p j) (λ j. le_prop) a.least b.least i; most = is_prop→PathP (λ j. p j ≤ high) (λ j. le_prop) a.most b.most i }
 
-pub same_hertz : (a b : Hertz) → a.number ≡ b.number → a ≡ b
-same_hertz a b p = λ i. record { number = p i; least = is_prop→PathP (λ j. 1 ≤ p j) (λ j. le_prop) a.least b.least i; most = is_prop→PathP (λ j. p j ≤ 20000) (λ j. le_prop) a.most b.most i }
+ranged_yes : (low high a : ℕ) (d : Dec (low ≤ a)) (f : Dec (a ≤ high)) (x : Ranged low high) → x.number ≡ a → ranged_if low high a d f ≡ Some x
+ranged_yes low high a (yes p) (yes q) x e = ap Some (same_ranged (record { number = a; least = p; most = q }) x (sym e))
+ranged_yes low high a (yes p) (no q) x e = absurd (q (subst (λ n. n ≤ high) e x.most))
+ranged_yes low high a (no p) f x e = absurd (p (subst (λ n. low ≤ n) e x.least))
 
-channel_yes : (a : ℕ) (d : Dec (a ≤ 15)) (c : Channel) → c.number ≡ a → channel_if a d ≡ Some c
-channel_yes a (yes p) c e = ap Some (same_channel (record { number = a; most = p }) c (sym e))
-channel_yes a (no p) c e = absurd (p (subst (λ n. n ≤ 15) e c.most))
-
-pub channel_is : (a : ℕ) (c : Channel) → c.number ≡ a → Some c ≡ channel_of a
-channel_is a c e = sym (channel_yes a (dec_le a 15) c e)
-
-hertz_yes : (a : ℕ) (d : Dec (1 ≤ a)) (f : Dec (a ≤ 20000)) (h : Hertz) → h.number ≡ a → hertz_if a d f ≡ Some h
-hertz_yes a (yes p) (yes q) h e = ap Some (same_hertz (record { number = a; least = p; most = q }) h (sym e))
-hertz_yes a (yes p) (no q) h e = absurd (q (subst (λ n. n ≤ 20000) e h.most))
-hertz_yes a (no p) f h e = absurd (p (subst (λ n. 1 ≤ n) e h.least))
-
-pub hertz_is : (a : ℕ) (h : Hertz) → h.number ≡ a → Some h ≡ hertz_of a
-hertz_is a h e = sym (hertz_yes a (dec_le 1 a) (dec_le a 20000) h e)
+pub ranged_is : (low high a : ℕ) (x : Ranged low high) → x.number ≡ a → Some x ≡ ranged_of low high a
+ranged_is low high a x e = sym (ranged_yes low high a (dec_le low a) (dec_le a high) x e)
 
 -- a mode's tag and argument read as that mode
 
 back : (m : Mode) → mode_of (tag m) (argument m) ≡ Ok m
 back Off = refl
-back (Bypass c) = ap (bypass_with (of_value 2)) (sym (channel_is c.number c refl))
-back (Notch h) = ap (notch_with (of_value 2)) (sym (hertz_is h.number h refl))
+back (Bypass c) = ap (made_with Bypass (of_value 2)) (sym (ranged_is 0 15 c.number c refl))
+back (Notch h) = ap (made_with Notch (of_value 2)) (sym (ranged_is 1 20000 h.number h refl))
 
 tag_lt : (m : Mode) → tag m < 2 ^ 2
 tag_lt Off = omega arith
@@ -76,48 +65,40 @@ only_off : (a : ℕ) (b : Bool) (m : Mode) → (a == 0) ≡ b → cond {A = Resu
 only_off a true m h e = from_ok 0 a Off m refl (eqb→eq a 0 (subst T (sym h) tt)) e
 only_off a false m h e = from_err 0 a (of_value 2) m e
 
-only_bypass : (a : ℕ) (d : Dec (a ≤ 15)) (m : Mode) → bypass_with (of_value 2) (channel_if a d) ≡ Ok m → Same 1 a m
-only_bypass a (yes p) m e = from_ok 1 a (Bypass (record { number = a; most = p })) m refl refl e
-only_bypass a (no p) m e = from_err 1 a (of_value 2) m e
-
-only_notch : (a : ℕ) (d : Dec (1 ≤ a)) (f : Dec (a ≤ 20000)) (m : Mode) → notch_with (of_value 2) (hertz_if a d f) ≡ Ok m → Same 2 a m
-only_notch a (yes p) (yes q) m e = from_ok 2 a (Notch (record { number = a; least = p; most = q })) m refl refl e
-only_notch a (yes p) (no q) m e = from_err 2 a (of_value 2) m e
-only_notch a (no p) f m e = from_err 2 a (of_value 2) m e
+only_with : {low high : ℕ} (make : Ranged low high → Mode) (t : ℕ) → ((x : Ranged low high) → (t ≡ tag (make x)) × (x.number ≡ argument (make x)))
+    → (a : ℕ) (d : Dec (low ≤ a)) (f : Dec (a ≤ high)) (m : Mode) → made_with make (of_value 2) (ranged_if low high a d f) ≡ Ok m → Same t a m
+only_with {low} {high} make t is a (yes p) (yes q) m e = let x : Ranged low high = record { number = a; least = p; most = q } in from_ok t a (make x) m (is x).0 (is x).1 e
+only_with make t is a (yes p) (no q) m e = from_err t a (of_value 2) m e
+only_with make t is a (no p) f m e = from_err t a (of_value 2) m e
 
 only : (t a : ℕ) (m : Mode) → mode_of t a ≡ Ok m → Same t a m
 only zero a m e = only_off a (a == 0) m refl e
-only (suc zero) a m e = only_bypass a (dec_le a 15) m e
-only (suc (suc zero)) a m e = only_notch a (dec_le 1 a) (dec_le a 20000) m e
+only (suc zero) a m e = only_with Bypass 1 (λ x. (refl, refl)) a (dec_le 0 a) (dec_le a 15) m e
+only (suc (suc zero)) a m e = only_with Notch 2 (λ x. (refl, refl)) a (dec_le 1 a) (dec_le a 20000) m e
 only (suc (suc (suc t))) a m e = from_err (suc (suc (suc t))) a (of_value 0) m e
 
 -- what is refused is refused with 16 at bit 0 or 2
 
 Refuses : Result Mode Fault → Type 0
 Refuses (Ok m) = Unit {0}
-Refuses (Err f) = (f ≡ of_value f.place) × (f.place < 18)
+Refuses (Err f) = (f ≡ of_value (place_of f)) × (place_of f < 18)
 
 off_refuses : (b : Bool) → Refuses (cond b (Ok Off) (Err (of_value 2)))
 unfolding Refuses
 off_refuses true = tt
 off_refuses false = (refl, omega arith)
 
-bypass_refuses : (a : ℕ) (d : Dec (a ≤ 15)) → Refuses (bypass_with (of_value 2) (channel_if a d))
+with_refuses : {low high : ℕ} (make : Ranged low high → Mode) (a : ℕ) (d : Dec (low ≤ a)) (f : Dec (a ≤ high)) → Refuses (made_with make (of_value 2) (ranged_if low high a d f))
 unfolding Refuses
-bypass_refuses a (yes p) = tt
-bypass_refuses a (no p) = (refl, omega arith)
-
-notch_refuses : (a : ℕ) (d : Dec (1 ≤ a)) (f : Dec (a ≤ 20000)) → Refuses (notch_with (of_value 2) (hertz_if a d f))
-unfolding Refuses
-notch_refuses a (yes p) (yes q) = tt
-notch_refuses a (yes p) (no q) = (refl, omega arith)
-notch_refuses a (no p) f = (refl, omega arith)
+with_refuses make a (yes p) (yes q) = tt
+with_refuses make a (yes p) (no q) = (refl, omega arith)
+with_refuses make a (no p) f = (refl, omega arith)
 
 refuses : (t a : ℕ) → Refuses (mode_of t a)
 unfolding Refuses
 refuses zero a = off_refuses (a == 0)
-refuses (suc zero) a = bypass_refuses a (dec_le a 15)
-refuses (suc (suc zero)) a = notch_refuses a (dec_le 1 a) (dec_le a 20000)
+refuses (suc zero) a = with_refuses Bypass a (dec_le 0 a) (dec_le a 15)
+refuses (suc (suc zero)) a = with_refuses Notch a (dec_le 1 a) (dec_le a 20000)
 refuses (suc (suc (suc t))) a = (refl, omega arith)
 
 pub mode_lawful : Lawful mode_kind

@@ -1,5 +1,6 @@
 -- The value kind of modes: off, bypass with a channel 0 to 15, notch with 1 to 20,000 hertz; at first off.
 --
+--   ranged_of low high a           the number a in that range, if it is in it
 --   channel_of a, hertz_of a       the channel or the frequency of number a, if a is in its range
 --   bypass_of f a, notch_of f a    the mode with that number, or the refusal f
 --   tag m, argument m              how a mode is written: 2 bits and 16 bits
@@ -12,39 +13,34 @@ use Rattle.fields.specs.Bits.{bits, num}
 use Rattle.values.specs.Kinds.{Kind}
 use Rattle.values.specs.Refusals.{of_value}
 use Rattle.values.specs.declared.fault.Fault.{Fault}
-use Rattle.values.specs.declared.mode.Channel.{Channel}
-use Rattle.values.specs.declared.mode.Hertz.{Hertz}
+use Rattle.values.specs.declared.mode.Ranged.{Ranged}
 use Rattle.values.specs.declared.mode.Mode.{Mode}
 use Rattle.values.specs.declared.mode.Mode.TheVariants.{Off, Bypass, Notch}
 
-abbrev pub channel_if : (a : ℕ) → Dec (a ≤ 15) → Option Channel
-channel_if a (yes p) = Some (record { number = a; most = p })
-channel_if a (no p) = None
+abbrev pub ranged_if : (low high a : ℕ) → Dec (low ≤ a) → Dec (a ≤ high) → Option (Ranged low high)
+ranged_if low high a (yes p) (yes q) = Some (record { number = a; least = p; most = q })
+ranged_if low high a (yes p) (no q) = None
+ranged_if low high a (no p) d = None
 
-abbrev pub channel_of : ℕ → Option Channel
-channel_of a = channel_if a (dec_le a 15)
+abbrev pub ranged_of : (low high : ℕ) → ℕ → Option (Ranged low high)
+ranged_of low high a = ranged_if low high a (dec_le low a) (dec_le a high)
 
-abbrev pub hertz_if : (a : ℕ) → Dec (1 ≤ a) → Dec (a ≤ 20000) → Option Hertz
-hertz_if a (yes p) (yes q) = Some (record { number = a; least = p; most = q })
-hertz_if a (yes p) (no q) = None
-hertz_if a (no p) d = None
+abbrev pub channel_of : ℕ → Option (Ranged 0 15)
+channel_of a = ranged_of 0 15 a
 
-abbrev pub hertz_of : ℕ → Option Hertz
-hertz_of a = hertz_if a (dec_le 1 a) (dec_le a 20000)
+abbrev pub hertz_of : ℕ → Option (Ranged 1 20000)
+hertz_of a = ranged_of 1 20000 a
 
-abbrev pub bypass_with : Fault → Option Channel → Result Mode Fault
-bypass_with f (Some c) = Ok (Bypass c)
-bypass_with f None = Err f
+-- the mode that is made of what is there, or the refusal f
+abbrev pub made_with : {A : Type 0} → (A → Mode) → Fault → Option A → Result Mode Fault
+made_with make f (Some x) = Ok (make x)
+made_with make f None = Err f
 
 abbrev pub bypass_of : Fault → ℕ → Result Mode Fault
-bypass_of f a = bypass_with f (channel_of a)
-
-abbrev pub notch_with : Fault → Option Hertz → Result Mode Fault
-notch_with f (Some h) = Ok (Notch h)
-notch_with f None = Err f
+bypass_of f a = made_with Bypass f (channel_of a)
 
 abbrev pub notch_of : Fault → ℕ → Result Mode Fault
-notch_of f a = notch_with f (hertz_of a)
+notch_of f a = made_with Notch f (hertz_of a)
 
 abbrev pub tag : Mode → ℕ
 tag Off = 0

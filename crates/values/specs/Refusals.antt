@@ -1,13 +1,16 @@
 -- The table of refusals.
 --
---   number why     the number by which a refusal is known
---   of_site why    a refusal of layer 3: a site, or the making of a value or a placement; its place is 0
---   of_frame p     a frame's field that begins at bit p: refusal 17 of layer 2
---   of_value p     a value's field that begins at bit p: refusal 16 of layer 1
+--   number why           the number by which a refusal is known
+--   of_site why          a refusal of layer 3: a site, or the making of a value or a placement; its place is 0
+--   of_frame p           a frame's field that begins at bit p: refusal 17 of layer 2
+--   of_value p           a value's field that begins at bit p: refusal 16 of layer 1
+--   number_of f, layer_of f, place_of f   what a refusal holds: its number, its layer, the first bit of the refused field
+--   counted_from at f    refusal f of what begins at bit at: its place is at more; a site's refusal has no place
 --
 -- Assumes nothing.
-use Rattle.std.specs.Prelude.{ℕ}
+use Rattle.std.specs.Prelude.{ℕ, ◌+◌}
 use Rattle.values.specs.declared.fault.Fault.{Fault}
+use Rattle.values.specs.declared.fault.Fault.TheVariants.{Value, Frame, Site}
 use Rattle.values.specs.declared.fault.Refusal.{Refusal}
 use Rattle.values.specs.declared.fault.Refusal.TheVariants.{OutOfRange, OtherTables, OtherSession, FetchIsOut, NoSuchRegister, CountAtLimit, NoFetchIsOut, NotHeldHere, HeldHere, NotForThisSite, KnownAlready, ListIsFull, NoneReady, OtherFetch, NotCaughtUp, BitsRefused, FieldRefused, NoRoom}
 
@@ -50,10 +53,30 @@ number FieldRefused = 17
 number NoRoom = 18
 
 abbrev pub of_site : Refusal → Fault
-of_site why = record { number = number why; layer = 3; place = 0 }
+of_site why = Site why
 
 abbrev pub of_frame : ℕ → Fault
-of_frame p = record { number = 17; layer = 2; place = p }
+of_frame p = Frame p
 
 abbrev pub of_value : ℕ → Fault
-of_value p = record { number = 16; layer = 1; place = p }
+of_value p = Value p
+
+abbrev pub number_of : Fault → ℕ
+number_of (Value p) = number BitsRefused
+number_of (Frame p) = number FieldRefused
+number_of (Site why) = number why
+
+abbrev pub layer_of : Fault → ℕ
+layer_of (Value p) = 1
+layer_of (Frame p) = 2
+layer_of (Site why) = 3
+
+abbrev pub place_of : Fault → ℕ
+place_of (Value p) = p
+place_of (Frame p) = p
+place_of (Site why) = 0
+
+abbrev pub counted_from : ℕ → Fault → Fault
+counted_from at (Value p) = Value (at + p)
+counted_from at (Frame p) = Frame (at + p)
+counted_from at (Site why) = Site why

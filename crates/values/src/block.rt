@@ -4,6 +4,7 @@ ghost use Rattle.std.specs.Int.Signed.{mag};
 
 pub mod kind;
 
+// Stays: a block is eight single fields by a rule of the project (a value that is read passes in it), so each is written and read by its name.
 #[derive(Clone, Copy, PartialEq, Eq, Debug)]
 pub struct Block {
     pub first: i16,

@@ -4,20 +4,17 @@ ghost use Rattle.std.specs.Prelude.{◌≤◌};
 pub mod kind;
 pub mod making;
 
-// 0 to 15.
+/// A number in a range, its ends included.
 #[derive(Clone, Copy, PartialEq, Eq, Debug)]
-pub struct Channel {
-    pub number: u8,
-    ghost most: { number ≤ 15 },
+pub struct Ranged<const LOWEST: u16, const HIGHEST: u16> {
+    pub number: u16,
+    ghost least: { LOWEST ≤ number },
+    ghost most: { number ≤ HIGHEST },
 }
 
-// 1 to 20,000.
-#[derive(Clone, Copy, PartialEq, Eq, Debug)]
-pub struct Hertz {
-    pub number: u16,
-    ghost least: { 1 ≤ number },
-    ghost most: { number ≤ 20000 },
-}
+pub type Channel = Ranged<0, 15>;
+
+pub type Hertz = Ranged<1, 20_000>;
 
 #[derive(Clone, Copy, PartialEq, Eq, Debug)]
 pub enum Mode {

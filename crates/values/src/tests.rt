@@ -14,16 +14,17 @@ fn mode_bits(tag: u32, argument: u32) -> Bits {
     Bits { bytes }
 }
 
-fn read_mode(tag: u32, argument: u32) -> Result<Mode, Fault> {
-    Mode::read(&mode_bits(tag, argument))
+// What a refusal holds: number, layer and place.
+fn parts(fault: Fault) -> (u8, u8, u32) {
+    (fault.number(), fault.layer(), fault.place())
 }
 
-fn refused_at(place: u32) -> Result<Mode, Fault> {
-    Err(Fault {
-        number: 16,
-        layer: 1,
-        place,
-    })
+fn read_mode(tag: u32, argument: u32) -> Result<Mode, (u8, u8, u32)> {
+    Mode::read(&mode_bits(tag, argument)).map_err(parts)
+}
+
+fn refused_at(place: u32) -> Result<Mode, (u8, u8, u32)> {
+    Err((16, 1, place))
 }
 
 #[test]
@@ -101,33 +102,26 @@ fn modes_written(rt: HostRuntime) {
 
 #[test]
 fn modes_made(rt: HostRuntime) {
-    let refused = Err(Fault {
-        number: 1,
-        layer: 3,
-        place: 0,
-    });
+    let refused = Err((1, 3, 0));
     assert_eq!(rt; Mode::bypass(15), Ok(Mode::Bypass(Channel { number: 15 })));
-    assert_eq!(rt; Mode::bypass(16), refused);
-    assert_eq!(rt; Mode::notch(0), refused);
+    assert_eq!(rt; Mode::bypass(16).map_err(parts), refused);
+    assert_eq!(rt; Mode::notch(0).map_err(parts), refused);
     assert_eq!(rt;
         Mode::notch(20_000),
         Ok(Mode::Notch(Hertz { number: 20_000 }))
     );
-    assert_eq!(rt; Mode::notch(20_001), refused);
+    assert_eq!(rt; Mode::notch(20_001).map_err(parts), refused);
+    assert_eq!(rt; parts(Fault::of_site(Refusal::NoRoom)), (18, 3, 0));
+    assert_eq!(rt; parts(Fault::of_frame(8)), (17, 2, 8));
+}
+
+// A refusal of a value that begins at bit 139 of a frame.
+#[test]
+fn places_counted(rt: HostRuntime) {
+    assert_eq!(rt; parts(Fault::of_value(2).counted_from(139)), (16, 1, 141));
+    assert_eq!(rt; parts(Fault::of_frame(8).counted_from(100)), (17, 2, 108));
     assert_eq!(rt;
-        Fault::of_site(Refusal::NoRoom),
-        Fault {
-            number: 18,
-            layer: 3,
-            place: 0,
-        }
-    );
-    assert_eq!(rt;
-        Fault::of_frame(8),
-        Fault {
-            number: 17,
-            layer: 2,
-            place: 8,
-        }
+        parts(Fault::of_site(Refusal::NoRoom).counted_from(9)),
+        (18, 3, 0)
     );
 }

@@ -17,7 +17,7 @@ fn sample(bytes: &[u8], at: usize) -> i16
     requires { (at ≤ 240) × (length bytes.now ≡ 32) }
     ensures { result ≡ to_z w16 (field_at (bits_of bytes.now) at 16) }
 {
-    ((get(bytes, at, 16) & 0xffff) as u16).cast_signed()
+    (get(bytes, at, 16) as u16).cast_signed()
 }
 
 impl ValueKind for Block {

@@ -29,23 +29,20 @@ fn argument(mode: &Mode) -> u32
 }
 
 // The mode of a tag and an argument, or the first bit of the refused one.
+// Stays: numbers, since an enum of the three tags would be made of the same numbers by the same match, one step before.
 fn mode(tag: u32, argument: u32) -> Result<Mode, Fault>
     ensures { result ≡ mode_of tag argument }
 {
+    let argument_refused = Fault::of_value(2);
     match tag {
-        0 => if argument == 0 {
-            Ok(Mode::Off)
-        } else {
-            Err(Fault::of_value(2))
-        },
-        1 => match Channel::new(argument) {
-            Some(c) => Ok(Mode::Bypass(c)),
-            None => Err(Fault::of_value(2)),
-        },
-        2 => match Hertz::new(argument) {
-            Some(h) => Ok(Mode::Notch(h)),
-            None => Err(Fault::of_value(2)),
-        },
+        0 if argument == 0 => Ok(Mode::Off),
+        0 => Err(argument_refused),
+        1 => Channel::new(argument)
+            .map(Mode::Bypass)
+            .ok_or(argument_refused),
+        2 => Hertz::new(argument)
+            .map(Mode::Notch)
+            .ok_or(argument_refused),
         _ => Err(Fault::of_value(0)),
     }
 }

@@ -1,9 +1,8 @@
 use Rattle.std.proofs.Common.{false, [], ◌∷◌, ◌++◌, replicate, refl, ap, ◌∙◌, arith, w16, of_z}
-use Rattle.std.proofs.lemmas.Int.{to_z-of_z}
 use Rattle.fields.specs.Bits.{bits_of}
 use Rattle.fields.specs.Fields.{row}
 use Rattle.values.specs.Kinds.{plain}
-use Rattle.values.specs.BlockLaws.{sample_laid, none_laid, all_laid, samples_are}
+use Rattle.values.specs.BlockLaws.{sample_laid, none_laid, all_laid, samples_are, sample_again}
 use Rattle.values.specs.Plains.{blank}
 use Rattle.values.proofs.block.kind.BlockValueKind.write.Goals as goal
 
@@ -30,11 +29,11 @@ returns c =
     all_laid (x0 ∷ x1 ∷ x2 ∷ x3 ∷ x4 ∷ x5 ∷ x6 ∷ x7 ∷ []) (bits_of c.put-8.new.place) refl s7
     ∙ ap (λ ns. row 16 ns ++ replicate 128 false)
     (samples_are v x0 x1 x2 x3 x4 x5 x6 x7
-    (c.cast_unsigned.ensures ∙ ap (of_z w16) (to_z-of_z w16 v.first (record { sfits = v.first_fits })))
-    (c.cast_unsigned-2.ensures ∙ ap (of_z w16) (to_z-of_z w16 v.second (record { sfits = v.second_fits })))
-    (c.cast_unsigned-3.ensures ∙ ap (of_z w16) (to_z-of_z w16 v.third (record { sfits = v.third_fits })))
-    (c.cast_unsigned-4.ensures ∙ ap (of_z w16) (to_z-of_z w16 v.fourth (record { sfits = v.fourth_fits })))
-    (c.cast_unsigned-5.ensures ∙ ap (of_z w16) (to_z-of_z w16 v.fifth (record { sfits = v.fifth_fits })))
-    (c.cast_unsigned-6.ensures ∙ ap (of_z w16) (to_z-of_z w16 v.sixth (record { sfits = v.sixth_fits })))
-    (c.cast_unsigned-7.ensures ∙ ap (of_z w16) (to_z-of_z w16 v.seventh (record { sfits = v.seventh_fits })))
-    (c.cast_unsigned-8.ensures ∙ ap (of_z w16) (to_z-of_z w16 v.eighth (record { sfits = v.eighth_fits }))))
+    (c.cast_unsigned.ensures ∙ ap (of_z w16) (sample_again v.first v.first_fits))
+    (c.cast_unsigned-2.ensures ∙ ap (of_z w16) (sample_again v.second v.second_fits))
+    (c.cast_unsigned-3.ensures ∙ ap (of_z w16) (sample_again v.third v.third_fits))
+    (c.cast_unsigned-4.ensures ∙ ap (of_z w16) (sample_again v.fourth v.fourth_fits))
+    (c.cast_unsigned-5.ensures ∙ ap (of_z w16) (sample_again v.fifth v.fifth_fits))
+    (c.cast_unsigned-6.ensures ∙ ap (of_z w16) (sample_again v.sixth v.sixth_fits))
+    (c.cast_unsigned-7.ensures ∙ ap (of_z w16) (sample_again v.seventh v.seventh_fits))
+    (c.cast_unsigned-8.ensures ∙ ap (of_z w16) (sample_again v.eighth v.eighth_fits)))

@@ -1,10 +1,13 @@
 -- Tests of every count below a number, and lists of which the first places are anew: what holds at each place, by
 -- induction on how many places there are. A loop that writes place after place comes to the same list.
-use Rattle.std.proofs.Common.{◌≡◌, ℕ, zero, suc, ◌+◌, ◌-◌, ◌<◌, ◌≤◌, Bool, true, false, leb, List, map, length, get_or, drop, set, replicate, sym, refl, ap, ◌∙◌, subst, ⊎_elim, zero-add, add-one, arith}
-use Rattle.std.specs.List.{range_with_len}
-use Rattle.std.proofs.lemmas.List.FromFn.{length-map-range_with_len, get_or-map-range_with_len}
-use Rattle.std.proofs.lemmas.List.{length-set, get_or-set_same, get_or-set_other, set-get_or, set_past, get_or_append_left, get_or-append_right, get_or-drop, length-append, length-drop, ext_get_or}
-use Rattle.std.proofs.lemmas.Bool.{false≢true, and_cases, and_parts, and_from, and_left, and_right, cases_lt, cases_eq, leb-true, le-leb}
+use Rattle.std.proofs.Common.{◌≡◌, ℕ, zero, suc, ◌+◌, ◌-◌, ◌<◌, ◌≤◌, Bool, true, false, leb, List, [], ◌∷◌, ◌++◌, map, length, get_or, take, drop, set, replicate, sym, refl, ap, ◌∙◌, ⊎_elim, append_assoc, arith}
+use Rattle.std.specs.Prelude.{◌↔◌}
+use Rattle.std.specs.List.{range_with_len, list_all}
+use Rattle.std.proofs.lemmas.List.FromFn.{length-map-range_with_len, get_or-map-range_with_len, map-range_with_len_more}
+use Rattle.std.proofs.lemmas.List.{set_at, get_or_append_left, get_or-append_right, get_or-drop, length-append, length-drop, drop_more, drop_all, append-nil, length-take-le, get_or-take, get_or_default, ext_get_or}
+use Rattle.std.proofs.lemmas.List.Sums.{AllPass-from_list_all, list_all-from_AllPass}
+use Rattle.std.proofs.lemmas.Grind.{common_steps}
+use Rattle.std.proofs.lemmas.Bool.{both_ways, false_from_ne_true, cases_Bool, and_parts, and_from, cases_lt, cases_eq, leb-true, le-leb}
 use Rattle.clocks.specs.Counts.{limit, every, within, anew}
 
 -- a list of zeros
@@ -15,14 +18,6 @@ zeros_at (suc n) zero = refl
 zeros_at (suc n) (suc j) = zeros_at n j
 
 -- every
-
-pub every_none : (f : ℕ → Bool) → every 0 f ≡ true
-unfolding every
-every_none f = refl
-
-pub every_more : (n : ℕ) (f : ℕ → Bool) → every n f ≡ true → f n ≡ true → every (n + 1) f ≡ true
-unfolding every
-every_more n f h k = rw (add-one, k, h)
 
 pub every_at : (n : ℕ) (f : ℕ → Bool) → every n f ≡ true → (i : ℕ) → i < n → f i ≡ true
 unfolding every
@@ -36,23 +31,28 @@ unfolding every
 every_from zero f h = refl
 every_from (suc n) f h = and_from (f n) (every n f) (h n (omega arith)) (every_from n f (λ i l. h i (omega arith)))
 
-pub every_fails : (n : ℕ) (f : ℕ → Bool) (i : ℕ) → i < n → f i ≡ false → every n f ≡ false
-unfolding every
-every_fails zero f i l h = absurd (omega arith)
-every_fails (suc n) f i l h =
-    ⊎_elim (λ m. and_right (f n) (every n f) (every_fails n f i m h)) (λ m. let e : n ≡ i = omega arith in and_left (f n) (every n f) (rw e h)) (cases_lt i n)
-
--- one that fails is found
-pub every_misses : (n : ℕ) (f : ℕ → Bool) → every n f ≡ false → (i : ℕ) × (i < n) × (f i ≡ false)
-unfolding every
-every_misses zero f h = absurd (false≢true (sym h))
-every_misses (suc n) f h =
+-- what a test answers that asks f of each number below n
+pub every_asked : (n : ℕ) (f : ℕ → Bool) (r : Bool) → ((r ≡ true) ↔ ((i : ℕ) → i < n → f i ≡ true)) → r ≡ every n f
+every_asked n f r h =
     ⊎_elim
-    (λ (e : f n ≡ false). (n, omega arith, e))
-    (λ (e : every n f ≡ false). let r = every_misses n f e in (r.0, omega (arith, r.1), r.2))
-    (and_cases (f n) (every n f) h)
+    (λ (e : r ≡ true). e ∙ sym (every_from n f (h.0 e)))
+    (λ (e : r ≡ false). e ∙ sym (false_from_ne_true (every n f) (λ t. both_ways r e (h.1 (every_at n f t)))))
+    (cases_Bool r)
+
+-- that of a list whose items f knows by their places
+pub every_all : {X : Type 0} (p : X → Bool) (xs : List X) (d : X) (n : ℕ) (f : ℕ → Bool) → length xs ≡ n → ((i : ℕ) → i < n → p (get_or xs i d) ≡ f i) → list_all p xs ≡ every n f
+every_all p xs d n f h e =
+    every_asked n f (list_all p xs) (
+      λ t i l. sym (e i l) ∙ AllPass-from_list_all p xs t i d (omega arith),
+      λ t. list_all-from_AllPass p xs (λ i b l. ap p (get_or_default xs i b d l) ∙ e i (omega arith) ∙ t i (omega arith)),
+    )
 
 -- within
+
+pub within_all : (n : ℕ) (xs : List ℕ) → n ≤ length xs → list_all (λ x. leb x limit) (take n xs) ≡ within n xs
+within_all n xs h =
+    every_all (λ x. leb x limit) (take n xs) 0 n (λ j. leb (get_or xs j 0) limit) (length-take-le n xs h)
+    (λ j l. ap (λ t. leb t limit) (get_or-take n xs j 0 l))
 
 pub within_at : (n : ℕ) (xs : List ℕ) → within n xs ≡ true → (j : ℕ) → j < n → get_or xs j 0 ≤ limit
 within_at n xs h j l = leb-true (get_or xs j 0) limit (every_at n (λ j. leb (get_or xs j 0) limit) h j l)
@@ -62,18 +62,7 @@ within_from n xs h = every_from n (λ j. leb (get_or xs j 0) limit) (λ j l. le-
 
 -- one count that is written anew
 pub set_within : (n : ℕ) (xs : List ℕ) (k v : ℕ) → v ≤ limit → within n xs ≡ true → within n (set xs k v) ≡ true
-set_within n xs k v b h =
-    within_from n (set xs k v)
-    (λ j l.
-    let old = within_at n xs h j l in
-    ⊎_elim
-    (λ (e : j ≡ k).
-    ⊎_elim
-    (λ (s : k < length xs). subst (λ t. get_or (set xs k v) t 0 ≤ limit) (sym e) (subst (λ t. t ≤ limit) (sym (get_or-set_same xs k v 0 s)) b))
-    (λ (s : length xs ≤ k). subst (λ t. get_or t j 0 ≤ limit) (sym (set_past xs k v s)) old)
-    (cases_lt k (length xs)))
-    (λ (d : j ≡ k → ⊥). subst (λ t. t ≤ limit) (sym (get_or-set_other xs k j v 0 d)) old)
-    (cases_eq j k))
+set_within n xs k v b h = within_from n (set xs k v) (λ j l. let old = within_at n xs h j l in grind (arith, common_steps, cases_eq j k, cases_lt k (length xs)))
 
 -- anew
 
@@ -102,66 +91,19 @@ anew_from n f xs ys h l a b =
     (λ (k : n ≤ j). b j k ∙ sym (anew_behind n f xs j k))
     (cases_lt j n))
 
--- rewritten: what a loop has done that writes f 0, f 1, .. at the places from a on, after n of them
+-- the list of which one place more is anew: a loop that writes place after place comes to it
+pub anew_next : (n : ℕ) (f : ℕ → ℕ) (xs ys : List ℕ) → ys ≡ anew n f xs → get_or ys n 0 ≡ get_or xs n 0
+anew_next n f xs ys e = ap (λ t. get_or t n 0) e ∙ anew_behind n f xs n (omega arith)
 
-unfoldable pub rewritten : ℕ → ℕ → (ℕ → ℕ) → List ℕ → List ℕ
-rewritten a zero f xs = xs
-rewritten a (suc n) f xs = set (rewritten a n f xs) (a + n) (f n)
+pub anew_more : (n : ℕ) (f : ℕ → ℕ) (xs ys : List ℕ) (v : ℕ) → ys ≡ anew n f xs → n < length xs → v ≡ f n → set ys n v ≡ anew (n + 1) f xs
+anew_more n f xs ys v e h q =
+    rw (e, q, drop_more xs n 0 h)
+    (set_at (map f (range_with_len 0 n)) (get_or xs n 0) (drop (n + 1) xs) (f n) n (length-map-range_with_len f 0 n)
+    ∙ sym (append_assoc (map f (range_with_len 0 n)) (f n ∷ []) (drop (n + 1) xs))
+    ∙ ap (λ t. t ++ drop (n + 1) xs) (sym (map-range_with_len_more f 0 n n (omega arith))))
 
-pub rewritten_none : (a : ℕ) (f : ℕ → ℕ) (xs : List ℕ) → rewritten a 0 f xs ≡ xs
-unfolding rewritten
-rewritten_none a f xs = refl
-
-pub rewritten_more : (a n : ℕ) (f : ℕ → ℕ) (xs : List ℕ) → rewritten a (n + 1) f xs ≡ set (rewritten a n f xs) (a + n) (f n)
-unfolding rewritten
-rewritten_more a n f xs = rw add-one
-
-pub rewritten_length : (a n : ℕ) (f : ℕ → ℕ) (xs : List ℕ) → length (rewritten a n f xs) ≡ length xs
-unfolding rewritten
-rewritten_length a zero f xs = refl
-rewritten_length a (suc n) f xs = length-set (rewritten a n f xs) (a + n) (f n) ∙ rewritten_length a n f xs
-
-pub rewritten_before : (a n : ℕ) (f : ℕ → ℕ) (xs : List ℕ) (j : ℕ) → j < a → get_or (rewritten a n f xs) j 0 ≡ get_or xs j 0
-unfolding rewritten
-rewritten_before a zero f xs j h = refl
-rewritten_before a (suc n) f xs j h =
-    get_or-set_other (rewritten a n f xs) (a + n) j (f n) 0 (λ e. omega arith) ∙ rewritten_before a n f xs j h
-
-pub rewritten_behind : (a n : ℕ) (f : ℕ → ℕ) (xs : List ℕ) (j : ℕ) → a + n ≤ j → get_or (rewritten a n f xs) j 0 ≡ get_or xs j 0
-unfolding rewritten
-rewritten_behind a zero f xs j h = refl
-rewritten_behind a (suc n) f xs j h =
-    get_or-set_other (rewritten a n f xs) (a + n) j (f n) 0 (λ e. omega arith) ∙ rewritten_behind a n f xs j (omega arith)
-
-pub rewritten_at : (a n : ℕ) (f : ℕ → ℕ) (xs : List ℕ) (i : ℕ) → i < n → a + i < length xs → get_or (rewritten a n f xs) (a + i) 0 ≡ f i
-unfolding rewritten
-rewritten_at a zero f xs i l h = absurd (omega arith)
-rewritten_at a (suc n) f xs i l h =
-    ⊎_elim
-    (λ (m : i < n).
-    let d : (a + i ≡ a + n → ⊥) = λ e. omega arith in
-    get_or-set_other (rewritten a n f xs) (a + n) (a + i) (f n) 0 d ∙ rewritten_at a n f xs i m h)
-    (λ (m : n ≤ i).
-    let e : i ≡ n = omega arith in
-    let k : a + n < length (rewritten a n f xs) = rw rewritten_length (omega arith) in
-    rw e (get_or-set_same (rewritten a n f xs) (a + n) (f n) 0 k))
-    (cases_lt i n)
-
--- a loop that writes the places one after the other: the next place is as it was, and the write is the next step
-pub rewritten_next : (a n : ℕ) (f : ℕ → ℕ) (xs : List ℕ) → get_or (rewritten a n f xs) (a + n) 0 ≡ get_or xs (a + n) 0
-rewritten_next a n f xs = rewritten_behind a n f xs (a + n) (omega arith)
-
-pub rewritten_step : (a n : ℕ) (f : ℕ → ℕ) (xs ys : List ℕ) (j v : ℕ) → ys ≡ rewritten a n f xs → a + n ≡ j → v ≡ f n → set ys j v ≡ rewritten a (n + 1) f xs
-rewritten_step a n f xs ys j v e p q = rw (e, ← p, q) (sym (rewritten_more a n f xs))
-
-pub rewritten_kept : (a n : ℕ) (f : ℕ → ℕ) (xs ys : List ℕ) → ys ≡ rewritten a n f xs → get_or xs (a + n) 0 ≡ f n → ys ≡ rewritten a (n + 1) f xs
-rewritten_kept a n f xs ys e q =
-    let v : get_or ys (a + n) 0 ≡ f n = ap (λ t. get_or t (a + n) 0) e ∙ rewritten_next a n f xs ∙ q in
-    sym (set-get_or ys (a + n) 0) ∙ rewritten_step a n f xs ys (a + n) (get_or ys (a + n) 0) e refl v
-
--- all of the first n places are written
-pub rewritten_all : (n : ℕ) (f : ℕ → ℕ) (xs : List ℕ) → n ≤ length xs → rewritten 0 n f xs ≡ anew n f xs
-rewritten_all n f xs h =
-    anew_from n f xs (rewritten 0 n f xs) h (rewritten_length 0 n f xs)
-    (λ j k. ap (λ t. get_or (rewritten 0 n f xs) t 0) (sym (zero-add j)) ∙ rewritten_at 0 n f xs j k (omega arith))
-    (λ j k. rewritten_behind 0 n f xs j (omega arith))
+-- the loop ran over a part of the list, its first n places, all of which are anew at its end
+pub anew_all : (n j k : ℕ) (f : ℕ → ℕ) (xs ys : List ℕ) → ys ≡ anew j f (take k xs) → j ≡ n → k ≡ n → n ≤ length xs → ys ++ drop k xs ≡ anew n f xs
+anew_all n j k f xs ys e p q h =
+    let d : drop n (take n xs) ≡ [] = drop_all n (take n xs) (omega (arith, length-take-le n xs h)) in
+    rw (e, p, q, d) (rw append-nil)

@@ -4,4 +4,5 @@
 pub mod count;
 pub mod matrix;
 pub mod row;
+pub mod seat;
 pub mod set;

@@ -1,2 +1,2 @@
-pub mod HeldLaws
 pub mod WitnessLaws
+pub mod ListedSteps

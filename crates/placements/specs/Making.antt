@@ -9,7 +9,8 @@
 --   Made ok P r             r is a value of which P holds if ok is true, and else refusal 1
 --
 -- Assumes nothing.
-use Rattle.std.specs.Prelude.{◌≡◌, ℕ, ◌-◌, ◌^◌, Bool, true, false, ◌&&◌, List, [], ◌∷◌, ◌++◌, length, replicate, Result, MatchResult, nat_le, nat_lt}
+use Rattle.std.specs.Prelude.{◌≡◌, ℕ, ◌-◌, ◌^◌, Bool, true, false, ◌&&◌, List, ◌++◌, length, replicate, Result, MatchResult, nat_le, nat_lt}
+use Rattle.std.specs.List.{list_all}
 use Rattle.values.specs.Refusals.{of_site}
 use Rattle.values.specs.declared.fault.Fault.{Fault}
 use Rattle.values.specs.declared.fault.Refusal.TheVariants.{OutOfRange}
@@ -24,8 +25,7 @@ abbrev pub set_range : ℕ → ℕ → Bool
 set_range n m = nat_lt 0 m && nat_lt m (2 ^ n)
 
 abbrev pub sets_range : ℕ → List ℕ → Bool
-sets_range n [] = true
-sets_range n (m ∷ ms) = set_range n m && sets_range n ms
+sets_range n sets = list_all (set_range n) sets
 
 abbrev pub fillable : ℕ → List ℕ → Bool
 fillable n sets = in_range n (length sets) && sets_range n sets

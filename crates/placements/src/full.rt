@@ -1,13 +1,10 @@
 // Every site holds every register.
-ghost use Rattle.std.specs.Prelude.{◌≤◌};
+use crate::size::Size;
 
-// The placement on n sites of R registers that are held everywhere.
-#[derive(Clone, Copy)]
+/// The placement on n sites of R registers that are held everywhere.
+#[derive(Clone, Copy, Debug, PartialEq, Eq)]
 pub struct Full {
-    sites: u8,
-    registers: u16,
-    ghost many: { (2 ≤ sites) × (sites ≤ 8) },
-    ghost size: { (1 ≤ registers) × (registers ≤ 256) },
+    size: Size,
 }
 
 pub mod calls;

@@ -7,11 +7,12 @@ ghost use Rattle.clocks.specs.Sites.{told};
 pub mod full;
 pub mod listed;
 pub mod ring;
+mod size;
 #[cfg(test)]
 mod tests;
 pub mod witness;
 
-// A placement of the registers on the sites. Its answers depend on it alone, so asked twice it answers alike.
+/// A placement of the registers on the sites. Its answers depend on it alone, so asked twice it answers alike.
 pub trait Placement {
     // How many sites there are, how many registers, and whether register r is held at site l.
     ghost count: { Self → ℕ };
@@ -26,7 +27,7 @@ pub trait Placement {
     fn registers(&self) -> u16
         ensures { result ≡ size self.now };
 
-    // The set of the sites that hold register r.
+    /// The set of the sites that hold register r.
     fn holders(&self, r: u16) -> u8
         ensures { result ≡ told (count self.now) (held self.now r) };
 
@@ -41,8 +42,8 @@ pub trait Placement {
     ghost some: { (p : Self) (r : ℕ) → r < size p → (l : ℕ) × (held p r l ≡ true) };
 }
 
-// A placement that also names, for each reader and register, the site that answers: a holder is its own home, and the
-// home of any other site is some holder.
+/// A placement that also names, for each reader and register, the site that answers: a holder is its own home, and the
+/// home of any other site is some holder.
 pub trait Homes: Placement {
     ghost asked: { Self → ℕ → ℕ → ℕ };
 
@@ -54,7 +55,7 @@ pub trait Homes: Placement {
     ghost other: { (p : Self) (l r : ℕ) → l < Self.Placement.count p → r < Self.Placement.size p → Self.Placement.held p r (asked p l r) ≡ true };
 }
 
-// The site that a reader asks for a register: a site, and a holder of it.
+/// The site that a reader asks for a register: a site, and a holder of it.
 pub fn ask<P: Homes>(p: &P, reader: u8, r: u16) -> u8
     requires reader_bound { reader < P.Placement.count p.now }
     requires r_bound { r < P.Placement.size p.now }

@@ -1,15 +1,14 @@
 // Register r is held by p sites in a row from site r modulo n on, going round.
 ghost use Rattle.std.specs.Prelude.{◌≤◌};
 
-// The ring of n sites with R registers, each on `copies` sites.
-#[derive(Clone, Copy)]
+use crate::size::Size;
+
+/// The ring of n sites with R registers, each on `copies` sites.
+#[derive(Clone, Copy, Debug, PartialEq, Eq)]
 pub struct Ring {
-    sites: u8,
-    registers: u16,
+    size: Size,
     copies: u8,
-    ghost many: { (2 ≤ sites) × (sites ≤ 8) },
-    ghost size: { (1 ≤ registers) × (registers ≤ 256) },
-    ghost held: { (1 ≤ copies) × (copies ≤ sites) },
+    ghost held: { (1 ≤ copies) × (copies ≤ size.sites) },
 }
 
 pub mod calls;

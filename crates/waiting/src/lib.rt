@@ -4,5 +4,6 @@
 pub mod items;
 pub mod list;
 pub mod need;
+pub mod ready;
 #[cfg(test)]
 mod tests;

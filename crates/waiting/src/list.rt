@@ -3,7 +3,8 @@ ghost use Rattle.std.specs.Prelude.{◌≤◌, length};
 
 pub mod calls;
 
-// The first `count` places hold the items, the oldest first; the places behind them belong to nobody.
+// Stays: places with a count beside them, since the lent places behind the items are the caller's and an item is put there later.
+/// The first `count` places hold the items, the oldest first; the places behind them belong to nobody.
 #[derive(Drop)]
 pub struct WaitingList<'a, T> {
     places: &'a mut [T],

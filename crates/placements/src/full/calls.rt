@@ -1,32 +1,31 @@
 // The full placement: no site ever asks another.
-ghost use Rattle.std.specs.Prelude.{◌≡◌, ◌<◌, nat_lt};
+ghost use Rattle.std.specs.Prelude.{◌≡◌};
 ghost use Rattle.placements.specs.Making.{Made, in_range};
 ghost use Rattle.placements.specs.Placing.{full_held};
-ghost use Rattle.std.proofs.Common.{arith, rules};
-ghost use Rattle.std.proofs.lemmas.Bool.{and_from, lt-ltb};
+ghost use Rattle.std.proofs.Common.{rules};
 
 use crate::full::Full;
+use crate::size::Size;
 use crate::{Homes, Placement};
-use values::fault::{Fault, Refusal};
+use values::fault::Fault;
 
 impl Full {
-    // Refused with 1 unless there are 2 to 8 sites and 1 to 256 registers.
+    /// Refused with 1 unless there are 2 to 8 sites and 1 to 256 registers.
     pub fn new(sites: u8, registers: u16) -> Result<Full, Fault>
-        ensures { Made (in_range sites registers) (λ p. (p.sites ≡ sites) × (p.registers ≡ registers)) result }
+        ensures { Made (in_range sites registers) (λ p. (p.size.sites ≡ sites) × (p.size.registers ≡ registers)) result }
     {
-        if sites < 2 || sites > 8 || registers < 1 || registers > 256 {
-            return Err(Fault::of_site(Refusal::OutOfRange));
-        }
-        Ok(Full { sites, registers })
+        Ok(Full {
+            size: Size::new(sites, registers)?,
+        })
     }
 }
 
 impl Placement for Full {
-    ghost count = { λ p. p.sites };
+    ghost count = { λ p. p.size.sites };
 
-    ghost size = { λ p. p.registers };
+    ghost size = { λ p. p.size.registers };
 
-    ghost held = { λ p r. full_held p.sites p.registers r };
+    ghost held = { λ p r. full_held p.size.sites p.size.registers r };
 
     ghost few = { Prim.search rules };
 
@@ -37,19 +36,20 @@ impl Placement for Full {
     ghost none = { Prim.search rules };
 
     // site 0 holds every register
-    ghost some = { λ p r k. (0, and_from (nat_lt r p.registers) (nat_lt 0 p.sites) (lt-ltb r p.registers k) (lt-ltb 0 p.sites (omega (arith, p.many.0)))) };
+    ghost some = { λ p r k. (0, Prim.search rules) };
 
     fn sites(&self) -> u8 {
-        self.sites
+        self.size.sites
     }
 
     fn registers(&self) -> u16 {
-        self.registers
+        self.size.registers
     }
 
+    #[tactic(auto, using(clocks::proofs::SiteLaws::told_empty))]
     fn holders(&self, r: u16) -> u8 {
-        if r < self.registers {
-            ((1u16 << self.sites) - 1) as u8
+        if r < self.size.registers {
+            ((1u16 << self.size.sites) - 1) as u8
         } else {
             0
         }

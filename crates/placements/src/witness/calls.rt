@@ -1,8 +1,7 @@
 // The witness is its own home; the other sites keep the home that the placement below names.
-ghost use Rattle.std.specs.Prelude.{◌≡◌, ◌+◌, ◌<◌, true, ◌&&◌, nat_lt};
+ghost use Rattle.std.specs.Prelude.{◌≡◌, ◌<◌, true, ◌&&◌, nat_lt};
 ghost use Rattle.placements.specs.Making.{Made};
 ghost use Rattle.placements.specs.Placing.{witnessed, witnessed_home};
-ghost use Rattle.std.proofs.lemmas.Bool.{and_from, or_right, lt-ltb};
 ghost use Rattle.std.proofs.Common.{rules};
 
 use crate::witness::Witness;
@@ -26,9 +25,7 @@ impl<P: Placement> Placement for Witness<P> {
     ghost none = { Prim.search rules };
 
     // who holds a register below the witness still does
-    ghost some = { λ p r k.
-        let s = P.Placement.some p.below r k in
-        (s.0, and_from _ _ (lt-ltb r _ k) (or_right _ _ s.1)) };
+    ghost some = { λ p r k. let s = P.Placement.some p.below r k in (s.0, Prim.search rules) };
 
     fn sites(&self) -> u8 {
         self.below.sites()
@@ -65,7 +62,7 @@ impl<P: Homes> Homes for Witness<P> {
 }
 
 impl<P: Placement + Drop> Witness<P> {
-    // Refused with 1 if the site is not one of the placement's; the placement is then dropped.
+    /// Refused with 1 if the site is not one of the placement's; the placement is then dropped.
     pub fn over(below: P, site: u8) -> Result<Witness<P>, Fault>
         ensures { Made (nat_lt site (P.Placement.count below)) (λ w. (w.below ≡ below) × (w.site ≡ site)) result }
     {
@@ -76,8 +73,8 @@ impl<P: Placement + Drop> Witness<P> {
     }
 }
 
-// The site that a reader asks for a register once a site is a witness over a placement: again one of its holders.
-// Refused with 1 if the witness is not one of the sites.
+/// The site that a reader asks for a register once a site is a witness over a placement: again one of its holders.
+/// Refused with 1 if the witness is not one of the sites.
 pub fn with_witness<P: Homes + Drop>(below: P, site: u8, reader: u8, r: u16) -> Result<u8, Fault>
     ensures { Made (nat_lt site (P.Placement.count below)) (λ h. reader < P.Placement.count below → r < P.Placement.size below → (h ≡ witnessed_home site (P.Homes.asked below) reader r) × (witnessed site (P.Placement.count below) (P.Placement.size below) (P.Placement.held below) r h ≡ true)) result }
 {
@@ -85,7 +82,7 @@ pub fn with_witness<P: Homes + Drop>(below: P, site: u8, reader: u8, r: u16) -> 
     Ok(over.home(reader, r))
 }
 
-// The same with two witnesses, one over the other.
+/// The same with two witnesses, one over the other.
 pub fn with_two_witnesses<P: Homes + Drop>(
     below: P,
     one: u8,
@@ -95,7 +92,5 @@ pub fn with_two_witnesses<P: Homes + Drop>(
 ) -> Result<u8, Fault>
     ensures { Made (nat_lt one (P.Placement.count below) && nat_lt two (P.Placement.count below)) (λ h. reader < P.Placement.count below → r < P.Placement.size below → (h ≡ witnessed_home two (witnessed_home one (P.Homes.asked below)) reader r) × (witnessed two (P.Placement.count below) (P.Placement.size below) (witnessed one (P.Placement.count below) (P.Placement.size below) (P.Placement.held below)) r h ≡ true)) result }
 {
-    let over = Witness::over(below, one)?;
-    let pile = Witness::over(over, two)?;
-    Ok(pile.home(reader, r))
+    with_witness(Witness::over(below, one)?, two, reader, r)
 }

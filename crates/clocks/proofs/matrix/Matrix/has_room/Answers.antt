@@ -1,40 +1,18 @@
--- A count of a holder at the limit decides; at the end every column was seen.
-use Rattle.std.proofs.Common.{◌≡◌, ◌<◌, ◌≤◌, not, ◌||◌, ltb, sym, ap, ◌∙◌, subst, arith}
-use Rattle.std.proofs.lemmas.Bool.{both_ways, ltb-true, ltb-false}
-use Rattle.clocks.specs.Counts.{limit, every}
+-- The test is asked of each site below n.
+use Rattle.std.proofs.Common.{◌∙◌, ap, Bool, ℕ, ltb, not, ◌||◌, rules, tests, arith, zero-add}
+use Rattle.std.specs.List.{range_with_len}
+use Rattle.std.proofs.lemmas.Iterator.{YieldsList-from_range}
+use Rattle.std.proofs.lemmas.Iterator.Search.{all_from_yields_List}
+use Rattle.std.proofs.lemmas.List.FromFn.{length-range_with_len, get_or-range_with_len}
+use Rattle.clocks.specs.Counts.{limit}
 use Rattle.clocks.specs.Matrices.{entry}
 use Rattle.clocks.specs.Sites.{has}
-use Rattle.clocks.proofs.CountLaws.{every_none, every_more}
-use Rattle.clocks.proofs.MatrixLaws.{room_each, room_fails}
+use Rattle.clocks.proofs.CountLaws.{every_all}
 use Rattle.clocks.proofs.matrix.Matrix.has_room.Goals as goal
-use Rattle.clocks.proofs.matrix.Matrix.has_room.Goals.{else-has-via-then-has+else-not-can_rise, else-has-via-else-has}
-
-pub loop-l-init : goal.loop-l-init
-loop-l-init c = every_none _
-
-pub loop-l-preserved : goal.loop-l-preserved
-loop-l-preserved c =
-    let m = c.args.self.now.counts in
-    let n = c.args.n in
-    let i = c.args.i in
-    let h = c.args.holders in
-    let l = c.loop-l.l in
-    every_more l (λ k. not (has h k) || ltb (entry n m i k) limit) c.loop-l.invariant
-    (room_each n m i h l
-    (λ b.
-    elim c.else-has.branch [
-      | else-has-via-then-has+else-not-can_rise w ↦
-          subst (λ t. t < limit) w.entry.ensures (ltb-true _ limit (sym w.can_rise.ensures ∙ w.if-not-can_rise.false))
-      | else-has-via-else-has w ↦ absurd (both_ways (has h l) (sym c.has.ensures ∙ w.if-has.false) b)
-    ]))
-
-pub returns-then-not-can_rise : goal.returns-then-not-can_rise
-returns-then-not-can_rise c =
-    sym (room_fails c.args.n c.args.self.now.counts c.args.i c.args.holders c.loop-l.l (omega arith)
-    (sym c.has.ensures ∙ c.if-has.true)
-    (subst (λ t. limit ≤ t) c.entry.ensures (ltb-false _ limit (sym c.can_rise.ensures ∙ c.if-not-can_rise.true))))
 
 pub returns : goal.returns
 returns c =
-    let e : c.loop-l.l ≡ c.args.n = omega arith in
-    sym (ap (λ t. every t (λ k. not (has c.args.holders k) || ltb (entry c.args.n c.args.self.now.counts c.args.i k) limit)) (sym e) ∙ c.loop-l.invariant)
+    let n = c.args.seat.count.number in
+    let test : ℕ → Bool = λ l. not (has c.args.holders l) || ltb (entry n c.args.self.now.counts c.args.seat.site l) limit in
+    all_from_yields_List test _ _ _ c.all.ensures.ran (YieldsList-from_range 0 n n (search rules) (omega arith)) (λ x b q k. search (rules, tests))
+    ∙ every_all test (range_with_len 0 n) 0 n test (length-range_with_len 0 n) (λ l b. ap test (get_or-range_with_len 0 n l 0 b ∙ zero-add l))

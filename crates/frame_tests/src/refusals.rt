@@ -1,4 +1,7 @@
 // Every refusal of every kind, at its bit. A frame that is accepted has one field overwritten, and is refused there.
+ghost use Rattle.std.specs.Prelude.{◌≤◌};
+
+use crate::checks::{check, parts};
 use clocks::matrix::Matrix;
 use clocks::row::Row;
 use fields::field::put;
@@ -8,6 +11,7 @@ use frames::incoming::reading::read_incoming;
 use frames::message::{Fetch, Reply, Update};
 use frames::reply::{read_reply, write_reply};
 use frames::update::{read_update, write_update};
+use std::test::Fail;
 use values::fault::Fault;
 use values::mode::Mode;
 
@@ -29,15 +33,29 @@ const fn put_in(at: usize, width: u32, value: u32, place: Option<u32>) -> Case {
     }
 }
 
-fn refused(place: Option<u32>) -> Option<Fault> {
-    match place {
-        Some(place) => Some(Fault {
-            number: 17,
-            layer: 2,
-            place,
-        }),
-        None => None,
+// A frame's field that is refused: number, layer and place.
+fn refused(place: Option<u32>) -> Option<(u8, u8, u32)> {
+    place.map(|place| (17, 2, place))
+}
+
+// Each case on a frame of its own: what it is read as, or refused.
+fn run<const N: usize, M: Drop, F: Fn(&[u8]) -> Result<M, Fault>>(
+    frame: [u8; N],
+    cases: &[Case],
+    read: F,
+) -> Result<(), Fail>
+    requires small { N ≤ 24 }
+    requires callable { F.IsAlwaysCallable read }
+{
+    for c in cases {
+        let mut bytes = frame;
+        let place = &mut bytes[..];
+        let bits = 8 * place.len();
+        check(c.width <= 32 && c.at <= bits && c.width as usize <= bits - c.at)?;
+        put(place, c.at, c.width, c.value);
+        check(read(place).err().map(parts) == refused(c.place))?;
     }
+    Ok(())
 }
 
 // At two sites an update of a mode has 43 + 96 + 18 = 157 bits, 20 bytes.
@@ -56,7 +74,7 @@ fn update_frame() -> [u8; 20] {
 }
 
 #[test]
-fn of_updates(rt: HostRuntime) {
+fn of_updates(rt: HostRuntime) -> Result<(), Fail> {
     let cases = [
         put_in(0, 4, 1, None),
         put_in(0, 4, 2, Some(0)),
@@ -73,22 +91,9 @@ fn of_updates(rt: HostRuntime) {
         put_in(157, 3, 1, Some(157)),
         put_in(157, 3, 4, Some(157)),
     ];
-    for c in cases {
-        let mut bytes = update_frame();
-        if c.at < 157 || c.width == 3 {
-            assert!(rt; c.at <= 157 && c.width <= 32 && c.at + c.width as usize <= 160);
-            put(&mut bytes, c.at, c.width, c.value);
-        }
-        assert_eq!(rt; read_update::<Mode>(&bytes).err(), refused(c.place));
-    }
-    assert_eq!(rt;
-        read_update::<Mode>(&bytes_of_none()).err(),
-        refused(Some(0))
-    );
-}
-
-fn bytes_of_none() -> [u8; 0] {
-    []
+    run(update_frame(), &cases, read_update::<Mode>)?;
+    assert_eq!(rt; read_update::<Mode>(&[]).err().map(parts), refused(Some(0)));
+    Ok(())
 }
 
 // The value's refusal has number 16 and layer 1, and its place counts from the frame's start: the value begins at bit 139.
@@ -97,33 +102,21 @@ fn of_values(rt: HostRuntime) {
     let mut bytes = update_frame();
     put(&mut bytes, 139, 2, 3);
     assert_eq!(rt;
-        read_update::<Mode>(&bytes).err(),
-        Some(Fault {
-            number: 16,
-            layer: 1,
-            place: 139,
-        })
+        read_update::<Mode>(&bytes).err().map(parts),
+        Some((16, 1, 139))
     );
     put(&mut bytes, 139, 2, 2);
     assert_eq!(rt;
-        read_update::<Mode>(&bytes).err(),
-        Some(Fault {
-            number: 16,
-            layer: 1,
-            place: 141,
-        })
+        read_update::<Mode>(&bytes).err().map(parts),
+        Some((16, 1, 141))
     );
     put(&mut bytes, 141, 16, 20_001);
     assert_eq!(rt;
-        read_update::<Mode>(&bytes).err(),
-        Some(Fault {
-            number: 16,
-            layer: 1,
-            place: 141,
-        })
+        read_update::<Mode>(&bytes).err().map(parts),
+        Some((16, 1, 141))
     );
     put(&mut bytes, 141, 16, 20_000);
-    assert_eq!(rt; read_update::<Mode>(&bytes).err(), None);
+    assert_eq!(rt; read_update::<Mode>(&bytes).err().map(parts), None);
 }
 
 // At two sites a fetch has 46 + 48 = 94 bits, 12 bytes.
@@ -142,7 +135,7 @@ fn fetch_frame() -> [u8; 12] {
 }
 
 #[test]
-fn of_fetches(rt: HostRuntime) {
+fn of_fetches(rt: HostRuntime) -> Result<(), Fail> {
     let cases = [
         put_in(0, 4, 2, None),
         put_in(0, 4, 1, Some(0)),
@@ -155,13 +148,9 @@ fn of_fetches(rt: HostRuntime) {
         put_in(22, 24, 0, Some(22)),
         put_in(94, 2, 1, Some(94)),
     ];
-    for c in cases {
-        let mut bytes = fetch_frame();
-        assert!(rt; c.width <= 32 && c.at <= 94 && c.at + c.width as usize <= 96);
-        put(&mut bytes, c.at, c.width, c.value);
-        assert_eq!(rt; read_fetch(&bytes).err(), refused(c.place));
-    }
-    assert_eq!(rt; read_fetch(&bytes_of_none()).err(), refused(Some(0)));
+    run(fetch_frame(), &cases, read_fetch)?;
+    assert_eq!(rt; read_fetch(&[]).err().map(parts), refused(Some(0)));
+    Ok(())
 }
 
 // At two sites a reply of a mode has 74 + 96 + 18 = 188 bits, 24 bytes.
@@ -182,7 +171,7 @@ fn reply_frame(label: Option<(u8, u32)>) -> [u8; 24] {
 }
 
 #[test]
-fn of_replies(rt: HostRuntime) {
+fn of_replies(rt: HostRuntime) -> Result<(), Fail> {
     let cases = [
         put_in(0, 4, 1, Some(0)),
         put_in(4, 4, 9, Some(4)),
@@ -195,20 +184,13 @@ fn of_replies(rt: HostRuntime) {
         put_in(50, 24, 0, Some(50)),
         put_in(188, 4, 1, Some(188)),
     ];
-    for c in cases {
-        let mut bytes = reply_frame(Some((1, 9)));
-        assert!(rt; c.width <= 32 && c.at <= 188 && c.at + c.width as usize <= 192);
-        put(&mut bytes, c.at, c.width, c.value);
-        assert_eq!(rt; read_reply::<Mode>(&bytes).err(), refused(c.place));
-    }
-    assert_eq!(rt;
-        read_reply::<Mode>(&bytes_of_none()).err(),
-        refused(Some(0))
-    );
+    run(reply_frame(Some((1, 9))), &cases, read_reply::<Mode>)?;
+    assert_eq!(rt; read_reply::<Mode>(&[]).err().map(parts), refused(Some(0)));
+    Ok(())
 }
 
 #[test]
-fn of_unwritten_replies(rt: HostRuntime) {
+fn of_unwritten_replies() -> Result<(), Fail> {
     let cases = [
         put_in(46, 1, 0, None),
         put_in(46, 1, 1, Some(50)),
@@ -216,12 +198,7 @@ fn of_unwritten_replies(rt: HostRuntime) {
         put_in(47, 3, 2, Some(47)),
         put_in(50, 24, 1, Some(50)),
     ];
-    for c in cases {
-        let mut bytes = reply_frame(None);
-        assert!(rt; c.width <= 32 && c.at <= 188 && c.at + c.width as usize <= 192);
-        put(&mut bytes, c.at, c.width, c.value);
-        assert_eq!(rt; read_reply::<Mode>(&bytes).err(), refused(c.place));
-    }
+    run(reply_frame(None), &cases, read_reply::<Mode>)
 }
 
 fn is_fetch(bytes: &[u8]) -> Result<bool, Fault> {
@@ -236,19 +213,8 @@ fn of_what_comes_in(rt: HostRuntime) {
     assert_eq!(rt; is_fetch(&fetch_frame()), Ok(true));
     assert_eq!(rt; is_fetch(&update_frame()), Ok(false));
     assert_eq!(rt;
-        is_fetch(&reply_frame(None)),
-        Err(Fault {
-            number: 17,
-            layer: 2,
-            place: 0,
-        })
+        is_fetch(&reply_frame(None)).map_err(parts),
+        Err((17, 2, 0))
     );
-    assert_eq!(rt;
-        is_fetch(&bytes_of_none()),
-        Err(Fault {
-            number: 17,
-            layer: 2,
-            place: 0,
-        })
-    );
+    assert_eq!(rt; is_fetch(&[]).map_err(parts), Err((17, 2, 0)));
 }

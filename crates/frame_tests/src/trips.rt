@@ -1,6 +1,5 @@
 // Frames of 2, 5 and 8 sites with each value kind: they read back, and a byte more or less is refused at bit 8.
-ghost use Rattle.std.specs.Prelude.{◌≤◌, IfOk, IsTrue};
-
+use crate::checks::{check, parts};
 use clocks::matrix::Matrix;
 use clocks::row::Row;
 use frames::fetch::{read_fetch, write_fetch};
@@ -14,90 +13,99 @@ use values::fault::Fault;
 use values::kind::ValueKind;
 use values::mode::{Hertz, Mode};
 
-const LENGTH: Fault = Fault {
-    number: 17,
-    layer: 2,
-    place: 8,
-};
+const LENGTH: (u8, u8, u32) = (17, 2, 8);
+
+// A message of one of the three kinds. Writing fails for more than eight sites too.
+trait Message: Sized {
+    fn write(&self, place: &mut [u8]) -> Result<usize, Fail>;
+
+    fn read(bytes: &[u8]) -> Result<Self, Fault>;
+}
+
+impl<V: ValueKind + Drop> Message for Update<V> {
+    fn write(&self, place: &mut [u8]) -> Result<usize, Fail> {
+        check(self.sites <= 8)?;
+        Ok(write_update(self, place)?)
+    }
+
+    fn read(bytes: &[u8]) -> Result<Update<V>, Fault> {
+        read_update(bytes)
+    }
+}
+
+impl Message for Fetch {
+    fn write(&self, place: &mut [u8]) -> Result<usize, Fail> {
+        check(self.sites <= 8)?;
+        Ok(write_fetch(self, place)?)
+    }
+
+    fn read(bytes: &[u8]) -> Result<Fetch, Fault> {
+        read_fetch(bytes)
+    }
+}
+
+impl<V: ValueKind + Drop> Message for Reply<V> {
+    fn write(&self, place: &mut [u8]) -> Result<usize, Fail> {
+        check(self.sites <= 8)?;
+        Ok(write_reply(self, place)?)
+    }
+
+    fn read(bytes: &[u8]) -> Result<Reply<V>, Fault> {
+        read_reply(bytes)
+    }
+}
+
+// The message as it comes back from its frame, which it is written as again.
+fn trip<M: Message + Drop>(message: &M) -> Result<M, Fail> {
+    let mut place = [0xee; 256];
+    let size = message.write(&mut place)?;
+    check(1 < size && size < 256)?;
+    check(place[size] == 0xee)?;
+    let mut again = [0xee; 256];
+    let back = M::read(&place[0..size])?;
+    check(back.write(&mut again)? == size)?;
+    check(again == place)?;
+    check(M::read(&place[0..size - 1]).err().map(parts) == Some(LENGTH))?;
+    check(M::read(&place[0..size + 1]).err().map(parts) == Some(LENGTH))?;
+    Ok(back)
+}
 
 // A matrix in which every count differs from the others.
 fn matrix() -> Matrix {
     let mut counts = [0; 64];
-    for j in 0..64u32 {
-        counts[j as usize] = 16_777_215 - j;
+    for (j, count) in counts.iter_mut().enumerate() {
+        *count = 16_777_215 - j as u32;
     }
     Matrix { counts }
 }
 
-// Fails the test unless this holds.
-fn check(holds: bool) -> Result<(), &'static str>
-    ensures { IfOk result (λ _. IsTrue holds) }
-{
-    if holds {
-        Ok(())
-    } else {
-        Err("a check of the test fails")
-    }
-}
-
-fn update_trip<V: ValueKind + Drop>(n: u8, value: V) -> Result<(), Fail>
-    requires { n ≤ 8 }
-{
-    let mut place = [0xee; 256];
-    let message = Update {
+fn update<V>(n: u8, value: V) -> Update<V> {
+    Update {
         sites: n,
         sender: n / 2,
         register: 255,
         number: 1,
         matrix: matrix(),
         value,
-    };
-    let size = write_update(&message, &mut place)?;
-    check(1 < size && size < 256)?;
-    check(place[size] == 0xee)?;
-    let mut again = [0xee; 256];
-    let back = read_update::<V>(&place[0..size])?;
-    check(back.sites <= 8)?;
-    check(write_update(&back, &mut again) == Ok(size))?;
-    check(again == place)?;
-    check(read_update::<V>(&place[0..size - 1]).err() == Some(LENGTH))?;
-    check(read_update::<V>(&place[0..size + 1]).err() == Some(LENGTH))?;
-    Ok(())
+    }
 }
 
-fn fetch_trip(n: u8) -> Result<(), Fail>
-    requires { n ≤ 8 }
-{
-    let mut place = [0xee; 256];
+fn fetch(n: u8) -> Fetch {
     let column = Row {
         counts: [1, 2, 3, 4, 5, 6, 7, 8],
     };
-    let message = Fetch {
+    Fetch {
         sites: n,
         reader: 0,
         home: n / 2,
         register: 128,
         number: 16_777_215,
         column,
-    };
-    let size = write_fetch(&message, &mut place)?;
-    check(1 < size && size < 256)?;
-    check(place[size] == 0xee)?;
-    let mut again = [0xee; 256];
-    let back = read_fetch(&place[0..size])?;
-    check(back.sites <= 8)?;
-    check(write_fetch(&back, &mut again) == Ok(size))?;
-    check(again == place)?;
-    check(read_fetch(&place[0..size - 1]).err() == Some(LENGTH))?;
-    check(read_fetch(&place[0..size + 1]).err() == Some(LENGTH))?;
-    Ok(())
+    }
 }
 
-fn reply_trip<V: ValueKind + Drop>(n: u8, label: Option<(u8, u32)>, value: V) -> Result<(), Fail>
-    requires { n ≤ 8 }
-{
-    let mut place = [0xee; 256];
-    let message = Reply {
+fn reply<V>(n: u8, label: Option<(u8, u32)>, value: V) -> Reply<V> {
+    Reply {
         sites: n,
         home: n / 2,
         reader: 0,
@@ -106,19 +114,7 @@ fn reply_trip<V: ValueKind + Drop>(n: u8, label: Option<(u8, u32)>, value: V) ->
         label,
         matrix: matrix(),
         value,
-    };
-    let size = write_reply(&message, &mut place)?;
-    check(1 < size && size < 256)?;
-    check(place[size] == 0xee)?;
-    let mut again = [0xee; 256];
-    let back = read_reply::<V>(&place[0..size])?;
-    check(back.sites <= 8)?;
-    check(back.label == label)?;
-    check(write_reply(&back, &mut again) == Ok(size))?;
-    check(again == place)?;
-    check(read_reply::<V>(&place[0..size - 1]).err() == Some(LENGTH))?;
-    check(read_reply::<V>(&place[0..size + 1]).err() == Some(LENGTH))?;
-    Ok(())
+    }
 }
 
 const COEFFICIENT: i32 = -2;
@@ -140,21 +136,28 @@ fn mode() -> Mode {
     Mode::Notch(Hertz { number: 20_000 })
 }
 
+fn reply_trip<V: ValueKind + Drop>(n: u8, label: Option<(u8, u32)>, value: V) -> Result<(), Fail> {
+    let back = trip(&reply(n, label, value))?;
+    check(back.label == label)?;
+    Ok(())
+}
+
 #[test]
 fn updates() -> Result<(), Fail> {
     for n in [2, 5, 8] {
-        update_trip(n, Coefficient { value: COEFFICIENT })?;
-        update_trip(n, block())?;
-        update_trip(n, mode())?;
+        trip(&update(n, Coefficient { value: COEFFICIENT }))?;
+        trip(&update(n, block()))?;
+        trip(&update(n, mode()))?;
     }
     Ok(())
 }
 
 #[test]
 fn fetches() -> Result<(), Fail> {
-    fetch_trip(2)?;
-    fetch_trip(5)?;
-    fetch_trip(8)
+    for n in [2, 5, 8] {
+        trip(&fetch(n))?;
+    }
+    Ok(())
 }
 
 #[test]
@@ -180,12 +183,8 @@ fn too_short(rt: HostRuntime) {
         column: Row::zero(),
     };
     assert_eq!(rt;
-        write_fetch(&fetch, &mut place),
-        Err(Fault {
-            number: 18,
-            layer: 3,
-            place: 0,
-        })
+        write_fetch(&fetch, &mut place).map_err(parts),
+        Err((18, 3, 0))
     );
     assert_eq!(rt; place, [0xee; 11]);
 }

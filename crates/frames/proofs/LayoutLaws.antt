@@ -1,7 +1,7 @@
 -- The laws of frames, over any list of fields: what is laid is read, and bits that carry fields are those laid.
 -- By induction on the fields; counts and value follow by the laws of rows and runs.
-use Rattle.std.proofs.Common.{◌≡◌, ℕ, ◌+◌, ◌-◌, ◌*◌, ◌^◌, ◌<◌, ◌≤◌, Bool, false, ltb, List, [], ◌∷◌, ◌++◌, length, take, drop, replicate, sym, refl, ap, ◌∙◌, subst, ap₂, append_assoc, mod-eq_of_lt, arith, length-append, length-drop, length-take, take-add, le-ltb}
-use Rattle.std.proofs.lemmas.List.{drop_at, take_at, take_all, drop-drop, take-append-drop, append-nil, length-replicate}
+use Rattle.std.proofs.Common.{◌≡◌, ℕ, ◌+◌, ◌-◌, ◌*◌, ◌^◌, ◌<◌, ◌≤◌, Bool, false, ltb, List, [], ◌∷◌, ◌++◌, length, get_or, take, drop, replicate, sym, refl, ap, ◌∙◌, subst, ap₂, append_assoc, mod-eq_of_lt, arith, length-append, length-drop, length-take, take-add, le-ltb}
+use Rattle.std.proofs.lemmas.List.{drop_at, drop_more, drop_all, take_at, take_all, drop-drop, take-append-drop, append-nil, length-replicate}
 use Rattle.std.specs.List.{AllByRecursion}
 use Rattle.fields.specs.Bits.{bits, num, bits_of, bytes_by}
 use Rattle.fields.specs.Fields.{run, field, splice, row, numbers}
@@ -9,7 +9,7 @@ use Rattle.fields.proofs.BitLaws.{bits_length, bits_num, num_bits, bits_zero, nu
 use Rattle.fields.proofs.ByteLaws.{bits_of_length, bytes_length, bytes_back, bits_back, bytes_from}
 use Rattle.fields.proofs.Inverses.{bits_field}
 use Rattle.fields.proofs.RowLaws.{row_length, numbers_row, row_numbers, numbers_length}
-use Rattle.fields.proofs.SpliceLaws.{splice_none, splice_next, splice_splice, splice_front}
+use Rattle.fields.proofs.SpliceLaws.{splice_none, splice_splice, splice_front, splice_length}
 use Rattle.values.specs.Kinds.{Kind, Lawful, plain}
 use Rattle.frames.specs.Writing.{write_place}
 use Rattle.frames.specs.Layouts.{Fields, span, laid, Fit, Holds, bytes_for, filling, body, framed, Carries, FramesCarry, OnlyFramesCarry}
@@ -74,14 +74,15 @@ pub framed_length : (fs : Fields) (cs : List ℕ) (vs : List Bool) → length (f
 unfolding framed
 framed_length fs cs vs = bytes_length (bytes_for (length (body fs cs vs))) (body fs cs vs ++ filling (length (body fs cs vs))) ∙ ap bytes_for (body_length fs cs vs)
 
+-- the parts of a frame, one behind the other
+parts_of : (fs : Fields) (cs : List ℕ) (vs : List Bool) (end : ℕ) → length (body fs cs vs) ≡ end → body fs cs vs ++ filling (length (body fs cs vs)) ≡ laid fs ++ (row 24 cs ++ (vs ++ filling end))
+unfolding body
+parts_of fs cs vs end e = ap (λ n. body fs cs vs ++ filling n) e ∙ append_assoc (laid fs) (row 24 cs ++ vs) (filling end) ∙ ap (λ l. laid fs ++ l) (append_assoc (row 24 cs) vs (filling end))
+
 framed_bits : (fs : Fields) (cs : List ℕ) (vs : List Bool) → bits_of (framed fs cs vs) ≡ laid fs ++ (row 24 cs ++ (vs ++ filling (span fs + 24 * length cs + length vs)))
-unfolding framed body
+unfolding framed
 framed_bits fs cs vs =
-    let end = span fs + 24 * length cs + length vs in
-    bits_back (bytes_for (length (body fs cs vs))) (body fs cs vs ++ filling (length (body fs cs vs))) (whole_length (body fs cs vs))
-    ∙ ap (λ n. body fs cs vs ++ filling n) (body_length fs cs vs)
-    ∙ append_assoc (laid fs) (row 24 cs ++ vs) (filling end)
-    ∙ ap (λ l. laid fs ++ l) (append_assoc (row 24 cs) vs (filling end))
+    bits_back (bytes_for (length (body fs cs vs))) (body fs cs vs ++ filling (length (body fs cs vs))) (whole_length (body fs cs vs)) ∙ parts_of fs cs vs _ (body_length fs cs vs)
 
 module _ (fs : Fields) (cs : List ℕ) (vs : List Bool) where
   end : ℕ
@@ -143,86 +144,63 @@ only_frames_carry bytes fs n w small len held zero =
     let tail : drop s X ≡ row 24 cs ++ (vs ++ filling (s + 24 * n + w)) =
     sym (take-append-drop (24 * n) (drop s X)) ∙ ap₂ (λ a b. a ++ b) (sym mid)
     (drop-drop (24 * n) s X ∙ sym (take-append-drop w (drop (s + 24 * n) X)) ∙ ap (λ b. vs ++ b) (drop-drop w (s + 24 * n) X ∙ fill)) in
-    let all : X ≡ body fs cs vs ++ filling (length (body fs cs vs)) =
-    sym (take-append-drop s X) ∙ ap₂ (λ a b. a ++ b) head tail
-    ∙ sym (append_assoc (laid fs) (row 24 cs ++ vs) (filling (s + 24 * n + w)) ∙ ap (λ l. laid fs ++ l) (append_assoc (row 24 cs) vs (filling (s + 24 * n + w))))
-    ∙ ap (λ k. body fs cs vs ++ filling k) (sym lb) in
+    let all : X ≡ body fs cs vs ++ filling (length (body fs cs vs)) = sym (take-append-drop s X) ∙ ap₂ (λ a b. a ++ b) head tail ∙ sym (parts_of fs cs vs (s + 24 * n + w) lb) in
     sym (bytes_back bytes small) ∙ ap₂ bytes_by (len ∙ ap bytes_for (sym lb)) all
 
 -- Writing: fields laid into a place one after the other.
 
-pub none_laid : (B : List Bool) → B ≡ splice B 0 (laid [])
+-- what is left to do while fields are laid: those that remain, from a bit on, make the place that is wanted
+pub record Remain (wanted place : List Bool) (at : ℕ) (fs : Fields) : Type 0 where
+  pub narrow : AllByRecursion (λ f. f.0 ≤ 32) fs
+  pub small : at + span fs < 2 ^ 32
+  pub room : at + span fs ≤ length place
+  pub makes : splice place at (laid fs) ≡ wanted
+
+-- the first of those that remain
+pub remain_first : (wanted place : List Bool) (at i : ℕ) (fs : Fields) → i < length fs → Remain wanted place at (drop i fs) → Remain wanted place at (get_or fs i (0, 0) ∷ drop (i + 1) fs)
+remain_first wanted place at i fs h r = subst (Remain wanted place at) (drop_more fs i (0, 0) h) r
+
+pub remain_next : (wanted place next : List Bool) (at : ℕ) (f : ℕ × ℕ) (fs : Fields) → Remain wanted place at (f ∷ fs) → next ≡ splice place at (bits f.0 f.1) → Remain wanted next (at + f.0) fs
 unfolding laid
-none_laid B = sym (splice_none B 0)
+remain_next wanted place next at f fs r e =
+    let w : length (bits f.0 f.1) ≡ f.0 = bits_length f.0 f.1 in
+    let h : at + length (bits f.0 f.1) ≤ length place = omega (arith, r.room) in
+    let l : length next ≡ length place = ap length e ∙ splice_length place (bits f.0 f.1) at h in
+    record {
+      narrow = r.narrow.1;
+      small = omega (arith, r.small);
+      room = omega (arith, r.room);
+      makes =
+          ap₂ (λ p n. splice p n (laid fs)) e (ap (λ n. at + n) (sym w))
+          ∙ splice_splice place (bits f.0 f.1) (laid fs) at h ∙ r.makes;
+    }
 
-pub field_laid : (B P Q : List Bool) (fs : Fields) (w x at : ℕ) → P ≡ splice B 0 (laid fs) → at ≡ span fs → at ≤ length B → Q ≡ splice P at (bits w x) → Q ≡ splice B 0 (laid (fs ++ ((w, x) ∷ [])))
-field_laid B P Q fs w x at e s h q =
-    q ∙ ap (λ p. splice p at (bits w x)) e ∙ splice_next B (laid fs) (bits w x) at (laid_length fs ∙ sym s) h ∙ ap (splice B 0) (sym (laid_push fs w x))
+-- none remain
+pub remain_none : (wanted place : List Bool) (at i : ℕ) (fs : Fields) → length fs ≤ i → Remain wanted place at (drop i fs) → place ≡ wanted
+unfolding laid
+remain_none wanted place at i fs h r = sym (splice_none place at) ∙ ap (λ l. splice place at (laid l)) (sym (drop_all i fs h)) ∙ r.makes
 
--- the place once all is laid
-pub all_laid : (ps qs : List ℕ) (P : List Bool) (fs : Fields) (cs : List ℕ) (vs : List Bool) (at end : ℕ) → AllByRecursion (λ b. b < 256) ps → AllByRecursion (λ b. b < 256) qs → length ps ≡ length qs
-    → end ≡ span fs + 24 * length cs + length vs → bytes_for end ≤ length qs → at ≡ span fs → P ≡ splice (bits_of qs) 0 (laid fs)
-    → bits_of ps ≡ splice P at (row 24 cs ++ (vs ++ filling end)) → ps ≡ framed fs cs vs ++ drop (length (framed fs cs vs)) qs
+-- a part laid right behind another
+pub then_laid : (B P Q xs ys : List Bool) (at from : ℕ) → from ≡ at + length xs → from ≤ length B → P ≡ splice B at xs → Q ≡ splice P from ys → Q ≡ splice B at (xs ++ ys)
+then_laid B P Q xs ys at from e h p q = q ∙ ap₂ (λ l n. splice l n ys) p e ∙ splice_splice B xs ys at (omega arith)
+
+-- a value's bits, out of what it writes
+pub value_run : {V : Type 0} (k : Kind V) → Lawful k → (v : V) (written : List Bool) (w : ℕ) → w ≡ k.width → written ≡ plain k v → run written 0 w ≡ k.bits v
+unfolding plain
+value_run k law v written w e p = ap₂ take e p ∙ take_at (k.bits v) (replicate (256 - k.width) false) k.width (law.sized v)
+
+-- the place once fields, and behind them counts, value and filling, are laid
+pub placed : (ps qs : List ℕ) (P : List Bool) (fs : Fields) (cs : List ℕ) (vs : List Bool) (end size : ℕ) → AllByRecursion (λ b. b < 256) ps → AllByRecursion (λ b. b < 256) qs → length ps ≡ length qs
+    → end ≡ span fs + 24 * length cs + length vs → size ≡ bytes_for end → size ≤ length qs → P ≡ splice (bits_of qs) 0 (laid fs)
+    → bits_of ps ≡ splice P (span fs) (row 24 cs ++ (vs ++ filling end)) → ps ≡ write_place size (framed fs cs vs) qs
 unfolding framed body
-all_laid ps qs P fs cs vs at end sp sq l e room a ep eq =
-    let lb = body_length fs cs vs in
-    let n = bytes_for (length (body fs cs vs)) in
-    let le : length (body fs cs vs) ≡ end = omega arith in
+placed ps qs P fs cs vs end size sp sq l e es room p q =
+    let n : length (body fs cs vs) ≡ end = body_length fs cs vs ∙ sym e in
     let ws = body fs cs vs ++ filling (length (body fs cs vs)) in
-    let lw : length (body fs cs vs ++ filling (length (body fs cs vs))) ≡ 8 * bytes_for (length (body fs cs vs)) = whole_length (body fs cs vs) in
-    let joined : laid fs ++ (row 24 cs ++ (vs ++ filling end)) ≡ ws =
-    sym (append_assoc (laid fs) (row 24 cs ++ vs) (filling end) ∙ ap (λ l. laid fs ++ l) (append_assoc (row 24 cs) vs (filling end))) ∙ ap (λ k. body fs cs vs ++ filling k) (sym le) in
-    let laid_all : bits_of ps ≡ ws ++ drop (8 * n) (bits_of qs) =
-    eq ∙ ap (λ p. splice p at (row 24 cs ++ (vs ++ filling end))) ep
-    ∙ splice_next (bits_of qs) (laid fs) (row 24 cs ++ (vs ++ filling end)) at (laid_length fs ∙ sym a) (omega (arith, bits_of_length qs))
-    ∙ ap (splice (bits_of qs) 0) joined ∙ splice_front (bits_of qs) ws ∙ ap (λ k. ws ++ drop k (bits_of qs)) lw in
-    bytes_from ps qs ws n sp sq l (rw le room) lw laid_all ∙ ap (λ k. bytes_by n ws ++ drop k qs) (sym (bytes_length n ws))
-
--- a matrix, a value and the filling, laid one after the other
-pub copy_laid : {V : Type 0} (k : Kind V) → Lawful k → (v : V) (B P Q R plain_bits : List Bool) (counts : List ℕ) (at n area w size : ℕ) → area ≡ n * n → w ≡ k.width → area ≤ length counts
-    → size ≡ bytes_for (at + 24 * area + w) → 8 * size ≤ length B
-    → P ≡ splice B at (row 24 (take (area - 0) counts)) → plain_bits ≡ plain k v → Q ≡ splice P (at + 24 * area) (run plain_bits 0 w) → R ≡ splice Q (at + 24 * area + w) (bits (8 * size - (at + 24 * area + w)) 0)
-    → R ≡ splice B at (row 24 (take (n * n) counts) ++ (k.bits v ++ filling (at + 24 * (n * n) + k.width)))
-unfolding plain filling
-copy_laid k law v B P Q R plain_bits counts at n area w size ea ew many es room p pl q r =
-    let X = row 24 (take area counts) in
-    let lt : length (take area counts) ≡ area = simp length-take (omega arith) in
-    let lx : length (row 24 (take area counts)) ≡ 24 * area = row_length 24 (take area counts) ∙ ap (λ m. 24 * m) lt in
-    let value : run plain_bits 0 w ≡ k.bits v = ap₂ (λ l m. take m l) pl ew ∙ take_at (k.bits v) (replicate (256 - k.width) false) k.width (law.sized v) in
-    let lv : length (k.bits v) ≡ w = law.sized v ∙ sym ew in
-    let z : bits (8 * size - (at + 24 * area + w)) 0 ≡ filling (at + 24 * area + w) = ap (λ m. bits (8 * m - (at + 24 * area + w)) 0) es ∙ bits_zero (8 * bytes_for (at + 24 * area + w) - (at + 24 * area + w)) in
-    let a1 : at + 24 * area ≡ at + length (row 24 (take area counts)) = omega arith in
-    let lxv : length (row 24 (take area counts) ++ k.bits v) ≡ 24 * area + w = rw (length-append X (k.bits v), lx, lv) in
-    let a2 : at + 24 * area + w ≡ at + length (row 24 (take area counts) ++ k.bits v) = omega arith in
-    let a0 : area - 0 ≡ area = omega arith in
-    let p' : P ≡ splice B at X = p ∙ ap (λ m. splice B at (row 24 (take m counts))) a0 in
-    let q' : Q ≡ splice B at (X ++ k.bits v) = q ∙ ap₂ (λ l y. splice l (at + 24 * area) y) p' value ∙ ap (λ m. splice (splice B at X) m (k.bits v)) a1 ∙ splice_splice B X (k.bits v) at (omega arith) in
-    let r' : R ≡ splice B at ((X ++ k.bits v) ++ filling (at + 24 * area + w)) =
-    r ∙ ap₂ (λ l y. splice l (at + 24 * area + w) y) q' z ∙ ap (λ m. splice (splice B at (X ++ k.bits v)) m (filling (at + 24 * area + w))) a2 ∙ splice_splice B (X ++ k.bits v) (filling (at + 24 * area + w)) at (omega arith) in
-    r' ∙ ap (splice B at) (append_assoc X (k.bits v) (filling (at + 24 * area + w)))
-    ∙ ap₂ (λ m u. splice B at (row 24 (take m counts) ++ (k.bits v ++ filling (at + 24 * m + u)))) ea ew
-
--- a column and the filling
-pub column_laid : (B P R : List Bool) (counts : List ℕ) (at n size : ℕ) → n ≤ length counts → size ≡ bytes_for (at + 24 * n) → 8 * size ≤ length B
-    → P ≡ splice B at (row 24 (take (n - 0) counts)) → R ≡ splice P (at + 24 * n) (bits (8 * size - (at + 24 * n)) 0) → R ≡ splice B at (row 24 (take n counts) ++ filling (at + 24 * n))
-unfolding filling
-column_laid B P R counts at n size many es room p r =
-    let X = row 24 (take n counts) in
-    let lt : length (take n counts) ≡ n = simp length-take (omega arith) in
-    let lx : length (row 24 (take n counts)) ≡ 24 * n = row_length 24 (take n counts) ∙ ap (λ m. 24 * m) lt in
-    let a0 : n - 0 ≡ n = omega arith in
-    let a1 : at + 24 * n ≡ at + length (row 24 (take n counts)) = omega arith in
-    let z : bits (8 * size - (at + 24 * n)) 0 ≡ filling (at + 24 * n) = ap (λ m. bits (8 * m - (at + 24 * n)) 0) es ∙ bits_zero (8 * bytes_for (at + 24 * n) - (at + 24 * n)) in
-    r ∙ ap₂ (λ l y. splice l (at + 24 * n) y) (p ∙ ap (λ m. splice B at (row 24 (take m counts))) a0) z
-    ∙ ap (λ m. splice (splice B at X) m (filling (at + 24 * n))) a1 ∙ splice_splice B X (filling (at + 24 * n)) at (omega arith)
-
--- the place as the rule of writing has it
-pub placed : (ps qs : List ℕ) (P : List Bool) (fs : Fields) (cs : List ℕ) (vs : List Bool) (at end size n : ℕ) → AllByRecursion (λ b. b < 256) ps → AllByRecursion (λ b. b < 256) qs → length ps ≡ length qs
-    → length cs ≡ n → end ≡ span fs + 24 * n + length vs → size ≡ bytes_for end → size ≤ length qs → at ≡ span fs → P ≡ splice (bits_of qs) 0 (laid fs)
-    → bits_of ps ≡ splice P at (row 24 cs ++ (vs ++ filling end)) → ps ≡ write_place size (framed fs cs vs) qs
-placed ps qs P fs cs vs at end size n sp sq l ln e es room a ep eq =
-    let e' : end ≡ span fs + 24 * length cs + length vs = omega arith in
-    let r : bytes_for end ≤ length qs = omega arith in
+    let m : bytes_for (length (body fs cs vs)) ≡ size = ap bytes_for n ∙ sym es in
+    let lw : length (body fs cs vs ++ filling (length (body fs cs vs))) ≡ 8 * size = whole_length (body fs cs vs) ∙ ap (λ k. 8 * k) m in
+    let whole : bits_of ps ≡ ws ++ drop (8 * size) (bits_of qs) =
+    then_laid (bits_of qs) P (bits_of ps) (laid fs) (row 24 cs ++ (vs ++ filling end)) 0 (span fs) (omega (arith, laid_length fs)) (omega (arith, bits_of_length qs)) p q
+    ∙ ap (splice (bits_of qs) 0) (sym (parts_of fs cs vs end n)) ∙ splice_front (bits_of qs) ws ∙ ap (λ k. ws ++ drop k (bits_of qs)) lw in
     let t : ltb (length qs) size ≡ false = le-ltb _ _ room in
-    let s : length (framed fs cs vs) ≡ size = framed_length fs cs vs ∙ ap bytes_for (sym e') ∙ sym es in
-    all_laid ps qs P fs cs vs at end sp sq l e' r a ep eq ∙ ap (λ m. framed fs cs vs ++ drop m qs) s ∙ rw t
+    bytes_from ps qs ws size sp sq l room lw whole ∙ ap (λ k. bytes_by k ws ++ drop size qs) (sym m) ∙ rw t

@@ -1,4 +1,3 @@
 pub mod PartLaws
-pub mod ReadLaws
 pub mod LayoutLaws
 pub mod RoundTrips

@@ -1,3 +1,4 @@
+pub mod FrameKinds
 pub mod Layouts
 pub mod Messages
 pub mod Reading

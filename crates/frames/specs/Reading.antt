@@ -13,7 +13,7 @@ use Rattle.std.specs.List.{AllByRecursion}
 use Rattle.fields.specs.Bits.{bits_of}
 use Rattle.fields.specs.Fields.{run, field, numbers}
 use Rattle.values.specs.Kinds.{Kind}
-use Rattle.values.specs.Refusals.{of_frame}
+use Rattle.values.specs.Refusals.{of_frame, counted_from}
 use Rattle.values.specs.declared.fault.Fault.{Fault}
 use Rattle.frames.specs.Layouts.{bytes_for}
 use Rattle.frames.specs.Messages.{update_bits, fetch_bits, reply_bits, update_frame, fetch_frame, reply_frame, update_clean, fetch_clean, reply_clean, UpdateInRange, FetchInRange, ReplyInRange}
@@ -33,7 +33,7 @@ onward (Err e) f = Err e
 
 abbrev pub from : {A : Type 0} → ℕ → Result A Fault → Result A Fault
 from at (Ok a) = Ok a
-from at (Err e) = Err (record { number = e.number; layer = e.layer; place = at + e.place })
+from at (Err e) = Err (counted_from at e)
 
 -- a site count is 2 to 8
 abbrev pub site_count : ℕ → Bool

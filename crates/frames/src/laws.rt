@@ -12,19 +12,19 @@ use values::coefficient::Coefficient;
 use values::kind::ValueKind;
 use values::mode::Mode;
 
-// Any list of fields, whatever their widths: a frame carries its fields, and only it carries them.
+/// Any list of fields, whatever their widths: a frame carries its fields, and only it carries them.
 pub fn layouts()
     ensures carry { FramesCarry }
     ensures only { OnlyFramesCarry }
 {}
 
-// At every value kind: a frame that was written reads back as its message, and bytes that are accepted as a message are its frame.
+/// At every value kind: a frame that was written reads back as its message, and bytes that are accepted as a message are its frame.
 pub fn inverse<V: ValueKind>()
     ensures back { ReadsBack V.kind }
     ensures only { AcceptsOnlyFrames V.kind }
 {}
 
-// The same at each of the kinds that there are.
+/// The same at each of the kinds that there are.
 pub fn inverse_at_each_kind()
     ensures coefficients { (ReadsBack coefficient_kind) × (AcceptsOnlyFrames coefficient_kind) }
     ensures blocks { (ReadsBack block_kind) × (AcceptsOnlyFrames block_kind) }
@@ -35,7 +35,7 @@ pub fn inverse_at_each_kind()
     inverse::<Mode>();
 }
 
-// The lengths of two frames, and one frame byte by byte.
+/// The lengths of two frames, and one frame byte by byte.
 pub fn worked()
     ensures fetch { FetchOfTwoSites }
     ensures block { BlockOfEightSites }

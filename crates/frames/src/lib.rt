@@ -4,6 +4,7 @@
 
 pub mod fetch;
 pub mod incoming;
+pub mod kind;
 pub mod laws;
 pub mod message;
 mod parts;

@@ -22,10 +22,13 @@ use Rattle.frames.specs.declared.message.Reply.{Reply}
 use Rattle.waiting.specs.Queues.{first_where}
 use Rattle.protocol.specs.States.{Placed, State, Session, Outcome, need, given}
 use Rattle.protocol.specs.Words.{plain_bytes, same_bytes, written_so, sound, copy_ok, label_ok, number_ok, copy_of, waiting_updates, fits, updates_ok, bound_for, shows, is_out, others, caught_up}
-use Rattle.protocol.specs.Writing.{Written, write_rule, written_to, can_write, update_size, update_sent, after_write}
-use Rattle.protocol.specs.Reading.{Read, read_rule, value_of, copy_read_ok, merged_with}
-use Rattle.protocol.specs.Applying.{Applied, ready_update, no_update, apply_rule, apply_first, applied_at, after_apply}
+use Rattle.protocol.specs.Writing.{write_rule, written_to, can_write, update_size, update_sent, after_write}
+use Rattle.protocol.specs.Reading.{read_rule, value_of, copy_read_ok, merged_with}
+use Rattle.protocol.specs.Applying.{ready_update, no_update, apply_rule, apply_first, applied_at, after_apply}
 use Rattle.protocol.specs.Replying.{take_rule, taken_reply, reply_for_here, of_the_fetch}
+use Rattle.protocol.specs.declared.answers.Applied.{Applied}
+use Rattle.protocol.specs.declared.answers.Read.{Read}
+use Rattle.protocol.specs.declared.answers.Written.{Written}
 use Rattle.protocol.proofs.Values.{plain_taken}
 
 -- two answers that differ

@@ -1,9 +1,10 @@
 -- Lists of items: what a search finds, what taking one out leaves, and what holds of every item seen through a view.
-use Rattle.std.proofs.Common.{◌≡◌, ℕ, zero, suc, ◌+◌, ◌<◌, ◌≤◌, Bool, true, false, cond, not, ◌⊎◌, List, [], ◌∷◌, ◌++◌, map, length, get_or, take, drop, Some, None, refl, ap, ◌∙◌, subst, inl, inr, arith}
+use Rattle.std.proofs.Common.{◌≡◌, ℕ, zero, suc, ◌+◌, ◌<◌, Bool, true, false, cond, not, ◌⊎◌, List, [], ◌∷◌, ◌++◌, map, length, get_or, take, drop, Some, None, refl, sym, ap, drop-cons, ◌∙◌, subst, inl, inr, arith}
 use mathlib.Core.List.Memᴰ
 use mathlib.Core.List.{Memᴰ}
-use Rattle.std.proofs.lemmas.List.{length-take, get_or-take}
+use Rattle.std.proofs.lemmas.List.{length-take, get_or-take, take-append-drop}
 use Rattle.waiting.specs.Queues.{first_where}
+use Rattle.waiting.proofs.QueueLaws.{first_within}
 use Rattle.protocol.specs.Words.{every_item, no_item}
 use Rattle.protocol.proofs.Model.{In, All}
 
@@ -28,9 +29,7 @@ module _ {A : Type 0} where
 
   -- the list around place j
   pub around : (xs : List A) (j : ℕ) (d : A) → j < length xs → xs ≡ take j xs ++ (get_or xs j d ∷ drop (suc j) xs)
-  around [] j d h = absurd (omega arith)
-  around (x ∷ xs) zero d h = refl
-  around (x ∷ xs) (suc j) d h = ap (λ l. x ∷ l) (around xs j d (omega arith))
+  around xs j d h = sym (take-append-drop j xs) ∙ ap (λ l. take j xs ++ l) (drop-cons xs j d h)
 
   pub in_around : (xs : List A) (j : ℕ) (d : A) → j < length xs → In (get_or xs j d) xs
   in_around [] j d h = absurd (omega arith)
@@ -50,19 +49,6 @@ module _ {A : Type 0} where
 
   -- a search
 
-  pub found_within : (f : A → Bool) (i j : ℕ) (xs : List A) → first_where f i xs ≡ Some j → (i ≤ j) × (j < i + length xs)
-  found_within f i j [] e = let z : ◌≡◌ {A = ℕ} 0 1 = cc in absurd (omega arith)
-  found_within f i j (x ∷ xs) e = go (f x) refl (found_within f (suc i) j xs)
-    where
-      go : (b : Bool) → f x ≡ b → (first_where f (suc i) xs ≡ Some j → (suc i ≤ j) × (j < suc i + length xs)) → (i ≤ j) × (j < i + length (x ∷ xs))
-      go true q rec =
-          let s : Some i ≡ Some j = rw q at e in
-          let r : i ≡ j = cc in
-          (omega arith, omega arith)
-      go false q rec =
-          let h = rec (rw q at e) in
-          (omega (arith, h.0), omega (arith, h.1))
-
   -- what is found passes, and all before it fail
   pub found_passes : (f : A → Bool) (d : A) (i j : ℕ) (xs : List A) → first_where f i xs ≡ Some (i + j) → f (get_or xs j d) ≡ true
   found_passes f d i j [] e = let z : ◌≡◌ {A = ℕ} 0 1 = cc in absurd (omega arith)
@@ -75,7 +61,7 @@ module _ {A : Type 0} where
           let z : j ≡ 0 = omega arith in
           ap (λ m. f (get_or (x ∷ xs) m d)) z ∙ q
       go false q rec zero e =
-          let h = (found_within f (suc i) (i + 0) xs (rw q at e)).0 in
+          let h = (first_within f xs (suc i) (i + 0) (rw q at e)).0 in
           absurd (omega arith)
       go false q rec (suc j) e =
           let s : first_where f (suc i) xs ≡ Some (i + suc j) = rw q at e in
@@ -121,10 +107,6 @@ module _ {A : Type 0} where
           let s : every_item (λ x. not (f x)) xs ≡ true = rw q at e in
           (q, rec s)
 
-pub map_append : {A B : Type 0} (v : A → B) (a b : List A) → map v (a ++ b) ≡ map v a ++ map v b
-map_append v [] b = refl
-map_append v (x ∷ a) b = ap (λ l. v x ∷ l) (map_append v a b)
-
 pub in_map : {A B : Type 0} (v : A → B) (z : A) (xs : List A) → In z xs → In (v z) (map v xs)
 in_map v z [] h = absurd h
 in_map v z (x ∷ xs) (inl q) = inl (ap v q)
@@ -147,7 +129,7 @@ map_in f b (y ∷ ys) (inr h) = let r = map_in f b ys h in (r.0, inr r.1, r.2)
 -- what is found among the first n items is one of them
 pub found_in : {A : Type 0} (f : A → Bool) (xs : List A) (n j : ℕ) (d : A) → first_where f 0 (take n xs) ≡ Some j → In (get_or xs j d) (take n xs)
 found_in f xs n j d h =
-    let a = found_within f 0 j (take n xs) h in
+    let a = first_within f (take n xs) 0 j h in
     let b = length-take n xs in
     subst (λ x. In x (take n xs)) (get_or-take n xs j d (omega (arith, a.1))) (in_around (take n xs) j d (omega (arith, a.1)))
 

@@ -18,13 +18,17 @@ use Rattle.frames.specs.Reading.{reply_read}
 use Rattle.waiting.specs.Queues.{first_where}
 use Rattle.protocol.specs.States.{Placed, LawfulPlaced, State, Session}
 use Rattle.protocol.specs.Words.{waiting_updates, copy_of}
-use Rattle.protocol.specs.Writing.{Written, write_rule}
-use Rattle.protocol.specs.Reading.{Read, read_rule}
-use Rattle.protocol.specs.Fetching.{Begun, fetch_rule}
-use Rattle.protocol.specs.Applying.{Applied, ready_update, no_update, apply_rule}
+use Rattle.protocol.specs.Writing.{write_rule}
+use Rattle.protocol.specs.Reading.{read_rule}
+use Rattle.protocol.specs.Fetching.{fetch_rule}
+use Rattle.protocol.specs.Applying.{ready_update, no_update, apply_rule}
 use Rattle.protocol.specs.Replying.{take_rule}
 use Rattle.protocol.specs.Runs.{Call, read, fetch, apply, take_reply, Answer, no as said_no, was_read, begun, applied, replied, Step, StepAt, Rack, told_so, at, rack_after, history}
 use Rattle.protocol.specs.Causality.{Writes, Reads, Fetching, local, fetched}
+use Rattle.protocol.specs.declared.answers.Applied.{Applied}
+use Rattle.protocol.specs.declared.answers.Begun.{Begun}
+use Rattle.protocol.specs.declared.answers.Read.{Read}
+use Rattle.protocol.specs.declared.answers.Written.{Written}
 use Rattle.protocol.proofs.Model as model
 use Rattle.protocol.proofs.Model.{Config, Write, Ask, Waiting, Way, Event, world, out_after, wrote, reads, asked, refused, received, queued, served, dropped}
 use Rattle.protocol.proofs.ModelBasics.{set_cases}

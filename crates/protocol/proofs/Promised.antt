@@ -18,10 +18,11 @@ use Rattle.waiting.specs.Queues.{first_where}
 use Rattle.waiting.specs.declared.items.WaitingUpdate.{WaitingUpdate}
 use Rattle.protocol.specs.States.{Placed, LawfulPlaced, State, Session, need}
 use Rattle.protocol.specs.Words.{waiting_updates}
-use Rattle.protocol.specs.Applying.{Applied, ready_update, no_update, after_apply, applied_at, apply_rule}
+use Rattle.protocol.specs.Applying.{ready_update, no_update, after_apply, applied_at, apply_rule}
 use Rattle.protocol.specs.Runs.{Call, Answer, Step, StepAt, Rack, apply, no, applied, at, told_so, step, site_of, rack_after, history}
 use Rattle.protocol.specs.Causality.{Writes, local, Waits, PastApplied}
 use Rattle.protocol.specs.Promises.{LabelsNameWrites, OnlyWhatIsBound, Once, InCausalOrder, LastApplied, NoneApplied, LocalReadsAnswerTheLast, AppliedInCausalOrder, AnswersAWrite, NeverOvertaken, NoStaleReads, Due, TakesTheOldest, NoneIsDue, AppliesOrNone, ItemOf, ReadyWhenDue, Promised}
+use Rattle.protocol.specs.declared.answers.Applied.{Applied}
 use Rattle.protocol.proofs.Model as model
 use Rattle.protocol.proofs.Model.{Config, Write, Event, wrote}
 use Rattle.protocol.proofs.ModelCausal as causal
@@ -281,7 +282,7 @@ module _ {V : Type 0} (k : Kind V) (kl : Lawful k) (p : Placed) (law : LawfulPla
     where
       go : (◌≡◌ {A = Answer V} (no (of_site NoneReady)) (no (of_site OtherTables)))
           ⊎ (((first_where (ready_update (S t i)) 0 (waiting_updates (S t i)) ≡ None) × (◌≡◌ {A = Answer V} (no (of_site NoneReady)) (no (of_site NoneReady)))) ⊎ ((a : Applied) × (◌≡◌ {A = Answer V} (no (of_site NoneReady)) (applied a)))) → ⊥
-      go (inl q) = let r : of_site NoneReady ≡ of_site OtherTables = cc in let n = ap (λ f. f.number) r in omega arith
+      go (inl q) = let z : ◌≡◌ {A = ℕ} 0 1 = cc in omega arith
       go (inr (inl q)) = none_due t i (f.sited t _ st) q.0 s u d
       go (inr (inr q)) = let r = q.1 in let z : ◌≡◌ {A = ℕ} 0 1 = cc in omega arith
 

@@ -1,6 +1,6 @@
 -- Applying and serving are steps of the model: the oldest ready item is taken out of the list, the rest keeps its order.
 use Rattle.std.proofs.Common.{◌≡◌, ℕ, suc, ◌+◌, ◌-◌, ◌<◌, ◌≤◌, true, false, ◌&&◌, ltb, leb, ◌⊎◌, List, [], ◌∷◌, ◌++◌, map, length, get_or, take, drop, Some, None, Option, sym, refl, ap, ◌∙◌, subst, inl, inr, zero-add, arith}
-use Rattle.std.proofs.lemmas.List.{length-set, length-take, get_or-take}
+use Rattle.std.proofs.lemmas.List.{length-set, length-take, get_or-take, map-append}
 use Rattle.clocks.specs.Counts.{limit}
 use Rattle.values.specs.Kinds.{Kind}
 use Rattle.values.specs.declared.fault.Refusal.TheVariants.{OtherTables, CountAtLimit, NoRoom}
@@ -8,7 +8,7 @@ use Rattle.waiting.specs.Queues.{first_where, closed_up}
 use Rattle.waiting.specs.declared.items.Replica.{Replica}
 use Rattle.waiting.specs.declared.items.WaitingFetch.{WaitingFetch}
 use Rattle.waiting.specs.declared.items.WaitingUpdate.{WaitingUpdate}
-use Rattle.waiting.proofs.QueueLaws.{closed_list, closed_length}
+use Rattle.waiting.proofs.QueueLaws.{closed_list, closed_length, first_within}
 use Rattle.protocol.specs.States.{Placed, LawfulPlaced, State}
 use Rattle.protocol.specs.Words.{fits, updates_ok, fetches_ok, waiting_updates, waiting_fetches, copy_of, copy_ok, no_copy}
 use Rattle.protocol.specs.Reading.{value_of}
@@ -19,7 +19,7 @@ use Rattle.protocol.proofs.Model as model
 use Rattle.protocol.proofs.ModelBasics.{set_same, set_other}
 use Rattle.protocol.proofs.Views.{config, row_view, copy_view, update_view, fetch_view, applied_event, served_event}
 use Rattle.protocol.proofs.Agreement.{GoodCopy, GoodUpdate, GoodFetch, Sound, Agrees, by_apply, by_serve}
-use Rattle.protocol.proofs.Lists.{in_take, in_drop, in_either, around, in_around, found_within, found_passes, found_first, all_map_in, map_append}
+use Rattle.protocol.proofs.Lists.{in_take, in_drop, in_either, around, in_around, found_passes, found_first, all_map_in}
 use Rattle.protocol.proofs.Readiness.{ready_at, not_ready, row_in, ready_there, unready_there}
 use Rattle.protocol.proofs.Stepping.{Stepped, Ends, stepped_refused, need_ends, given_ends, set_at, raised_agrees}
 
@@ -61,7 +61,7 @@ module _ {V : Type 0} (k : Kind V) (p : Placed) (law : LawfulPlaced p) (cu cf : 
     many = length-take s.updates_waiting s.updates ∙ omega (arith, ok.updates_fit, ok.updates_long)
 
     below : j < s.updates_waiting
-    below = let h = (found_within (ready_update s) 0 j (waiting_updates s) found).1 in omega (arith, many)
+    below = let h = (first_within (ready_update s) (waiting_updates s) 0 j found).1 in omega (arith, many)
 
     item : get_or (waiting_updates s) j no_update ≡ u
     unfolding u
@@ -95,7 +95,7 @@ module _ {V : Type 0} (k : Kind V) (p : Placed) (law : LawfulPlaced p) (cu cf : 
     apply_accepted = record {
       may = record {
         site = subst (λ x. s.site < x) ok.sites ok.site;
-        waits = agree.updates ∙ ap (map (update_view k s.sites)) split ∙ map_append (update_view k s.sites) front (u ∷ back);
+        waits = agree.updates ∙ ap (map (update_view k s.sites)) split ∙ map-append (update_view k s.sites) front (u ∷ back);
         ready = ready_means u (subst (λ x. ready_update s x ≡ true) item (found_passes (ready_update s) no_update 0 j (waiting_updates s) found_0));
         oldest =
             all_map_in (update_view k s.sites) (λ x. ready_update s x ≡ false) (λ y. model.Ready (config k p law) w s.site y → ⊥) front
@@ -137,7 +137,7 @@ module _ {V : Type 0} (k : Kind V) (p : Placed) (law : LawfulPlaced p) (cu cf : 
         count = agree.count;
         fetches = agree.fetches;
         out = agree.out;
-        updates = set_same w.updates s.site _ ∙ sym (ap (map (update_view k s.sites)) rest ∙ map_append (update_view k s.sites) front back);
+        updates = set_same w.updates s.site _ ∙ sym (ap (map (update_view k s.sites)) rest ∙ map-append (update_view k s.sites) front back);
         asks = agree.asks;
       };
     }
@@ -163,7 +163,7 @@ module _ {V : Type 0} (k : Kind V) (p : Placed) (law : LawfulPlaced p) (cu cf : 
     fetches_many = length-take s.fetches_waiting s.fetches ∙ omega (arith, ok.fetches_fit, ok.fetches_long)
 
     fetch_below : j < s.fetches_waiting
-    fetch_below = let h = (found_within (ready_fetch s) 0 j (waiting_fetches s) found).1 in omega (arith, fetches_many)
+    fetch_below = let h = (first_within (ready_fetch s) (waiting_fetches s) 0 j found).1 in omega (arith, fetches_many)
 
     fetch_item : get_or (waiting_fetches s) j no_fetch ≡ f
     unfolding f
@@ -186,7 +186,7 @@ module _ {V : Type 0} (k : Kind V) (p : Placed) (law : LawfulPlaced p) (cu cf : 
         waits =
             agree.asks
             ∙ ap (map (fetch_view s.sites s.site)) (around (waiting_fetches s) j no_fetch (omega (arith, fetch_below, fetches_many)) ∙ ap (λ x. take j (waiting_fetches s) ++ (x ∷ drop (suc j) (waiting_fetches s))) fetch_item)
-            ∙ map_append (fetch_view s.sites s.site) (take j (waiting_fetches s)) (f ∷ drop (suc j) (waiting_fetches s));
+            ∙ map-append (fetch_view s.sites s.site) (take j (waiting_fetches s)) (f ∷ drop (suc j) (waiting_fetches s));
         ready = served_means f (subst (λ x. ready_fetch s x ≡ true) fetch_item (found_passes (ready_fetch s) no_fetch 0 j (waiting_fetches s) fetch_found));
         oldest =
             all_map_in (fetch_view s.sites s.site) (λ x. ready_fetch s x ≡ false) (λ y. model.ServedReady (config k p law) w y → ⊥) (take j (waiting_fetches s))
@@ -222,7 +222,7 @@ module _ {V : Type 0} (k : Kind V) (p : Placed) (law : LawfulPlaced p) (cu cf : 
         fetches = agree.fetches;
         out = agree.out;
         updates = agree.updates;
-        asks = set_same w.asks s.site _ ∙ sym (ap (map (fetch_view s.sites s.site)) fetch_rest ∙ map_append (fetch_view s.sites s.site) (take j (waiting_fetches s)) (drop (suc j) (waiting_fetches s)));
+        asks = set_same w.asks s.site _ ∙ sym (ap (map (fetch_view s.sites s.site)) fetch_rest ∙ map-append (fetch_view s.sites s.site) (take j (waiting_fetches s)) (drop (suc j) (waiting_fetches s)));
       };
     }
       where

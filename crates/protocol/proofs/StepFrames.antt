@@ -17,10 +17,11 @@ use Rattle.waiting.specs.declared.items.WaitingFetch.{WaitingFetch}
 use Rattle.protocol.specs.States.{Placed, LawfulPlaced, State, Session, Outcome, need, given}
 use Rattle.protocol.specs.Words.{others, fits, shows, is_out, bound_for, fetches_ok, waiting_fetches, copy_of, copy_ok}
 use Rattle.protocol.specs.Reading.{value_of}
-use Rattle.protocol.specs.Writing.{Written, grown, can_write, update_sent, after_write, update_size, write_rule}
+use Rattle.protocol.specs.Writing.{grown, can_write, update_sent, after_write, update_size, write_rule}
 use Rattle.protocol.specs.Fetching.{fetch_sent, fetch_size, fetch_rule}
 use Rattle.protocol.specs.Serving.{ready_fetch, no_fetch, reply_sent, reply_size, serve_first, serve_rule}
 use Rattle.protocol.specs.Runs.{Answer, written, begun, served, told_so, frame_of}
+use Rattle.protocol.specs.declared.answers.Written.{Written}
 use Rattle.protocol.proofs.Model as model
 use Rattle.protocol.proofs.Views.{view, row_view, fetch_view, wrote_view, asked_view, when_ok, served_event, home_below}
 use Rattle.protocol.proofs.ViewLaws.{row_view_column, all_small}

@@ -3,7 +3,7 @@ use Rattle.std.proofs.Common.{◌≡◌, ℕ, ◌+◌, ◌*◌, ◌<◌, ◌≤�
 use mathlib.Core.Option.{some}
 use native.Mathlib.Decide.{dec_lt}
 use borrow.Author.Tests.{eqb-false}
-use Rattle.std.proofs.lemmas.List.{length-set}
+use Rattle.std.proofs.lemmas.List.{length-set, map-append}
 use Rattle.clocks.specs.Matrices.{column}
 use Rattle.clocks.proofs.MatrixLaws.{column_count}
 use Rattle.clocks.proofs.RowLaws.{nowhere_below_at}
@@ -32,7 +32,7 @@ use Rattle.protocol.proofs.ModelBasics.{set_same}
 use Rattle.protocol.proofs.Views.{view, row_view, update_view, fetch_view, out_view, update_sent_view, fetch_sent_view, reply_sent_view, reply_ask, received_event, replied_event}
 use Rattle.protocol.proofs.ViewLaws.{view_in, view_trimmed, row_view_trimmed}
 use Rattle.protocol.proofs.Values.{plain_taken}
-use Rattle.protocol.proofs.Lists.{in_either, all_map_in, none_passes, map_append}
+use Rattle.protocol.proofs.Lists.{in_either, all_map_in, none_passes}
 use Rattle.protocol.proofs.Frames.{Carried, of_update, of_fetch, of_reply, clock_read}
 use Rattle.protocol.proofs.Agreement.{Clock, GoodUpdate, GoodFetch, Sound, Agrees, Changes, by_receive, by_queue, by_read}
 use Rattle.protocol.proofs.Stepping.{Stepped, Ends, stepped_refused, need_ends, not_true, and_true}
@@ -148,7 +148,7 @@ module _ {V : Type 0} (k : Kind V) (lawk : Lawful k) (p : Placed) (law : LawfulP
             updates =
                 set_same w.updates s.site _
                 ∙ ap₂ (λ l x. l ++ (x ∷ [])) agree.updates (sym item_view)
-                ∙ sym (ap (map (update_view k s.sites)) list ∙ map_append (update_view k s.sites) (waiting_updates s) (item ∷ []));
+                ∙ sym (ap (map (update_view k s.sites)) list ∙ map-append (update_view k s.sites) (waiting_updates s) (item ∷ []));
             asks = agree.asks;
           };
         }
@@ -223,7 +223,7 @@ module _ {V : Type 0} (k : Kind V) (lawk : Lawful k) (p : Placed) (law : LawfulP
             asks =
                 ap (model.set w.asks m.home _) (sym home) ∙ set_same w.asks m.home _
                 ∙ ap₂ (λ l x. l ++ (x ∷ [])) asks_here (sym view_is)
-                ∙ sym (ap (map (fetch_view s.sites s.site)) list ∙ map_append (fetch_view s.sites s.site) (waiting_fetches s) (item ∷ []));
+                ∙ sym (ap (map (fetch_view s.sites s.site)) list ∙ map-append (fetch_view s.sites s.site) (waiting_fetches s) (item ∷ []));
           };
         }
       where

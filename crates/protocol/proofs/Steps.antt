@@ -17,15 +17,19 @@ use Rattle.frames.specs.declared.incoming.Incoming.TheVariants.{OfUpdate, OfFetc
 use Rattle.waiting.specs.Queues.{first_where}
 use Rattle.protocol.specs.States.{Placed, LawfulPlaced, State, Session}
 use Rattle.protocol.specs.Words.{waiting_updates, waiting_fetches, copy_of}
-use Rattle.protocol.specs.Writing.{Written, write_rule}
-use Rattle.protocol.specs.Reading.{Read, read_rule}
-use Rattle.protocol.specs.Fetching.{Begun, fetch_rule}
+use Rattle.protocol.specs.Writing.{write_rule}
+use Rattle.protocol.specs.Reading.{read_rule}
+use Rattle.protocol.specs.Fetching.{fetch_rule}
 use Rattle.protocol.specs.Receiving.{receive_rule}
-use Rattle.protocol.specs.Applying.{Applied, ready_update, no_update, apply_rule}
+use Rattle.protocol.specs.Applying.{ready_update, no_update, apply_rule}
 use Rattle.protocol.specs.Serving.{ready_fetch, serve_rule}
 use Rattle.protocol.specs.Replying.{take_rule, abandon_rule}
 use Rattle.protocol.specs.Runs.{Call, write, read, fetch, receive, apply, serve, take_reply, abandon, written, was_read, begun, applied, replied, Step, StepAt, first, later, Rack, told_so, step, at, site_of, rack_after, history}
 use Rattle.protocol.specs.Causality.{Writes}
+use Rattle.protocol.specs.declared.answers.Applied.{Applied}
+use Rattle.protocol.specs.declared.answers.Begun.{Begun}
+use Rattle.protocol.specs.declared.answers.Read.{Read}
+use Rattle.protocol.specs.declared.answers.Written.{Written}
 use Rattle.protocol.proofs.Model as model
 use Rattle.protocol.proofs.Model.{Write, Ask, Waiting, Event, refused, wrote, reads, received, asked, queued, served, dropped, local, fetched}
 use Rattle.protocol.proofs.Views.{event_of, events, when_ok, received_event, applied_event, served_event, replied_event, wrote_view, asked_view, copy_view, update_view, update_sent_view, fetch_sent_view, reply_sent_view, reply_ask}

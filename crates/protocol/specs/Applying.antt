@@ -16,10 +16,7 @@ use Rattle.waiting.specs.declared.items.WaitingUpdate.{WaitingUpdate}
 use Rattle.protocol.specs.States.{Placed, State, Outcome, need, refuse}
 use Rattle.protocol.specs.Words.{ready, fits, updates_ok, waiting_updates}
 use Rattle.values.specs.Refusals.{of_site}
-
-pub record Applied : Type 0 where
-  pub label : ℕ × ℕ
-  pub register : ℕ
+use Rattle.protocol.specs.declared.answers.Applied.{Applied}
 
 abbrev pub ready_update : State → WaitingUpdate → Bool
 ready_update s u = ready s.sites s.applied (update_need u s.sites s.site)

@@ -16,10 +16,10 @@
 use Rattle.std.specs.Prelude.{◌≡◌, ℕ, ◌<◌, true, List, Some, Option}
 use Rattle.protocol.specs.States.{Placed, Session}
 use Rattle.protocol.specs.Words.{bound_for}
-use Rattle.protocol.specs.Writing.{Written}
-use Rattle.protocol.specs.Fetching.{Begun}
-use Rattle.protocol.specs.Applying.{Applied}
 use Rattle.protocol.specs.Runs.{Step, StepAt, write, read, fetch, receive, apply, take_reply, written, was_read, begun, received, applied, replied, frame_of}
+use Rattle.protocol.specs.declared.answers.Applied.{Applied}
+use Rattle.protocol.specs.declared.answers.Begun.{Begun}
+use Rattle.protocol.specs.declared.answers.Written.{Written}
 
 pub record Writes {V : Type 0} (h : List (Step V)) (t i m r : ℕ) (v : V) : Type 0 where
   pub session : Session

@@ -15,10 +15,7 @@ use Rattle.frames.specs.declared.message.Fetch.{Fetch}
 use Rattle.values.specs.declared.fault.Refusal.TheVariants.{OtherTables, OtherSession, FetchIsOut, NoSuchRegister, HeldHere, CountAtLimit, NoRoom}
 use Rattle.protocol.specs.States.{Placed, State, Session, Outcome, need}
 use Rattle.protocol.specs.Words.{bound_for, fits, shows, is_out}
-
-pub record Begun : Type 0 where
-  pub home : ℕ
-  pub length : ℕ
+use Rattle.protocol.specs.declared.answers.Begun.{Begun}
 
 abbrev pub fetch_sent : Placed → State → ℕ → Fetch
 fetch_sent p s r = record {

@@ -19,11 +19,12 @@ use Rattle.values.specs.declared.fault.Refusal.TheVariants.{NoneReady, OtherTabl
 use Rattle.waiting.specs.declared.items.WaitingUpdate.{WaitingUpdate}
 use Rattle.protocol.specs.States.{Placed, Session}
 use Rattle.protocol.specs.Words.{bound_for, waiting_updates}
-use Rattle.protocol.specs.Writing.{Written}
-use Rattle.protocol.specs.Reading.{Read}
-use Rattle.protocol.specs.Applying.{Applied, ready_update}
+use Rattle.protocol.specs.Applying.{ready_update}
 use Rattle.protocol.specs.Runs.{Call, Step, StepAt, Rack, Run, write, read, apply, take_reply, no, written, applied, was_read, replied, at, rack_after, history}
 use Rattle.protocol.specs.Causality.{Writes, Reads, Fetching, Before, Applies, Waits, PastApplied}
+use Rattle.protocol.specs.declared.answers.Applied.{Applied}
+use Rattle.protocol.specs.declared.answers.Read.{Read}
+use Rattle.protocol.specs.declared.answers.Written.{Written}
 
 module _ {V : Type 0} (k : Kind V) (p : Placed) (h : List (Step V)) where
   -- Labels.

@@ -14,10 +14,7 @@ use Rattle.values.specs.declared.fault.Refusal.TheVariants.{OtherTables, OtherSe
 use Rattle.waiting.specs.declared.items.Replica.{Replica}
 use Rattle.protocol.specs.States.{Placed, State, Session, Outcome, need, given}
 use Rattle.protocol.specs.Words.{bound_for, fits, shows, is_out, copy_of, copy_ok}
-
-pub record Read (V : Type 0) : Type 0 where
-  pub value : V
-  pub label : Option (ℕ × ℕ)
+use Rattle.protocol.specs.declared.answers.Read.{Read}
 
 abbrev pub value_of : {V : Type 0} → Kind V → Replica → Result V Fault
 value_of k c = k.read (taken k c.bits.bytes)

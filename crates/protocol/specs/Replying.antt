@@ -14,8 +14,9 @@ use Rattle.values.specs.Kinds.{Kind}
 use Rattle.values.specs.declared.fault.Refusal.TheVariants.{OtherTables, OtherSession, NoFetchIsOut, NotForThisSite, OtherFetch, NotCaughtUp}
 use Rattle.protocol.specs.States.{Placed, State, Session, Outcome, need, given}
 use Rattle.protocol.specs.Words.{caught_up, fits, shows, is_out}
-use Rattle.protocol.specs.Reading.{Read, merged_with}
+use Rattle.protocol.specs.Reading.{merged_with}
 use Rattle.protocol.specs.Fetching.{awaiting}
+use Rattle.protocol.specs.declared.answers.Read.{Read}
 
 abbrev pub reply_for_here : {V : Type 0} → State → Reply V → Bool
 reply_for_here s m = m.sites == s.sites && m.reader == s.site

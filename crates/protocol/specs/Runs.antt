@@ -16,13 +16,18 @@ use Rattle.values.specs.Kinds.{Kind}
 use Rattle.values.specs.declared.fault.Fault.{Fault}
 use Rattle.protocol.specs.States.{Placed, State, Session, Outcome}
 use Rattle.protocol.specs.Opening.{open_rule}
-use Rattle.protocol.specs.Writing.{Written, write_rule}
-use Rattle.protocol.specs.Reading.{Read, read_rule}
-use Rattle.protocol.specs.Fetching.{Begun, fetch_rule}
+use Rattle.protocol.specs.Writing.{write_rule}
+use Rattle.protocol.specs.Reading.{read_rule}
+use Rattle.protocol.specs.Fetching.{fetch_rule}
 use Rattle.protocol.specs.Receiving.{receive_rule}
-use Rattle.protocol.specs.Applying.{Applied, apply_rule}
-use Rattle.protocol.specs.Serving.{Served, serve_rule}
+use Rattle.protocol.specs.Applying.{apply_rule}
+use Rattle.protocol.specs.Serving.{serve_rule}
 use Rattle.protocol.specs.Replying.{take_rule, abandon_rule}
+use Rattle.protocol.specs.declared.answers.Applied.{Applied}
+use Rattle.protocol.specs.declared.answers.Begun.{Begun}
+use Rattle.protocol.specs.declared.answers.Read.{Read}
+use Rattle.protocol.specs.declared.answers.Served.{Served}
+use Rattle.protocol.specs.declared.answers.Written.{Written}
 
 pub data Call (V : Type 0) : Type 0 where
   write : (i : ℕ) → Session → (r : ℕ) → V → (place : List ℕ) → Call V

@@ -21,10 +21,7 @@ use Rattle.protocol.specs.States.{Placed, State, Outcome, need, given, refuse}
 use Rattle.protocol.specs.Words.{ready, fits, fetches_ok, waiting_fetches, copy_of, copy_ok}
 use Rattle.protocol.specs.Reading.{value_of}
 use Rattle.protocol.specs.Receiving.{with_lists}
-
-pub record Served : Type 0 where
-  pub reader : ℕ
-  pub length : ℕ
+use Rattle.protocol.specs.declared.answers.Served.{Served}
 
 abbrev pub ready_fetch : State → WaitingFetch → Bool
 ready_fetch s f = ready s.sites s.applied (fetch_need f s.sites s.site)

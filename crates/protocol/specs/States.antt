@@ -2,6 +2,8 @@
 --
 --   Placed        a placement with homes, as the rules see it: site count, register count, who holds what, whom a reader asks
 --   placed        the placement of these numbers and functions
+--   Saying        what a kind of placement says of each of its placements
+--   placing       a placement of such a kind, as the rules see it
 --   LawfulPlaced  the laws of a placement with homes
 --   State         one site: the numbers of its core, and its three tables whole
 --   Session       the numbers that a session carries
@@ -26,6 +28,14 @@ pub record Placed : Type 0 where
 
 abbrev pub placed : ℕ → ℕ → (ℕ → ℕ → Bool) → (ℕ → ℕ → ℕ) → Placed
 placed n R held home = record { sites = n; registers = R; held = held; home = home }
+
+-- what a kind of placement says of each of its placements
+abbrev pub Saying : Type 0 → Type 0
+Saying A = record { count : A → ℕ; size : A → ℕ; held : A → ℕ → ℕ → Bool; asked : A → ℕ → ℕ → ℕ }
+
+-- the placement p, as the rules see it
+abbrev pub placing : {A : Type 0} → Saying A → A → Placed
+placing says p = placed (says.count p) (says.size p) (says.held p) (says.asked p)
 
 pub record LawfulPlaced (p : Placed) : Type 0 where
   pub few : (2 ≤ p.sites) × (p.sites ≤ 8)

@@ -18,11 +18,7 @@ use Rattle.values.specs.Kinds.{Kind}
 use Rattle.values.specs.declared.fault.Refusal.TheVariants.{OtherTables, OtherSession, FetchIsOut, NoSuchRegister, CountAtLimit, NoRoom}
 use Rattle.protocol.specs.States.{Placed, State, Session, Outcome, need}
 use Rattle.protocol.specs.Words.{bound_for, holders, others, plain_bytes, fits, shows, is_out}
-
-pub record Written : Type 0 where
-  pub label : ℕ × ℕ
-  pub others : ℕ
-  pub length : ℕ
+use Rattle.protocol.specs.declared.answers.Written.{Written}
 
 abbrev pub grown : Placed → State → ℕ → List ℕ
 grown p s r = raised s.sites s.sent s.site (holders p r)

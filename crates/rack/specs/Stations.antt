@@ -7,37 +7,37 @@
 --   begun_held h r              the session at hand once a fetch was begun, with this answer; ended_held h r once a reply was taken or a fetch abandoned
 --
 -- Assumes nothing.
-use Rattle.std.specs.Prelude.{ℕ, ◌+◌, List, [], Ok, Err, vec_items, Result}
+use Rattle.std.specs.Prelude.{ℕ, ◌+◌, List, [], Some, None, Ok, Err, vec_items, Option, Result}
 use Rattle.values.specs.Refusals.{of_site}
 use Rattle.values.specs.declared.fault.Fault.{Fault}
 use Rattle.values.specs.declared.fault.Refusal.TheVariants.{FetchIsOut, NoFetchIsOut}
 use Rattle.protocol.specs.States.{State, Session, Outcome, refuse}
 use Rattle.sites.specs.States.{state_of, idle, awaiting}
 use Rattle.rack.specs.declared.station.Held.{Held}
-use Rattle.rack.specs.declared.station.Held.TheVariants.{Resting, Fetching, Away}
+use Rattle.rack.specs.declared.station.Held.TheVariants.{Resting, Fetching}
 use Rattle.rack.specs.declared.station.Station.{Station}
 
 abbrev pub station_state : Station → State
 station_state t = state_of t.site (vec_items t.copies) (vec_items t.updates) (vec_items t.fetches)
 
-abbrev pub idle_first : {A : Type 0} → Held → (Session → Outcome A) → State → List ℕ → Outcome A
-idle_first (Resting z) rule s place = rule (idle z)
-idle_first (Fetching z) rule s place = refuse (of_site FetchIsOut) s place
-idle_first Away rule s place = refuse (of_site FetchIsOut) s place
+abbrev pub idle_first : {A : Type 0} → Option Held → (Session → Outcome A) → State → List ℕ → Outcome A
+idle_first (Some (Resting z)) rule s place = rule (idle z)
+idle_first (Some (Fetching z)) rule s place = refuse (of_site FetchIsOut) s place
+idle_first None rule s place = refuse (of_site FetchIsOut) s place
 
-abbrev pub awaiting_first : {A : Type 0} → Held → (Session → Outcome A) → State → Outcome A
-awaiting_first (Resting z) rule s = refuse (of_site NoFetchIsOut) s []
-awaiting_first (Fetching z) rule s = rule (awaiting z)
-awaiting_first Away rule s = refuse (of_site NoFetchIsOut) s []
+abbrev pub awaiting_first : {A : Type 0} → Option Held → (Session → Outcome A) → State → Outcome A
+awaiting_first (Some (Resting z)) rule s = refuse (of_site NoFetchIsOut) s []
+awaiting_first (Some (Fetching z)) rule s = rule (awaiting z)
+awaiting_first None rule s = refuse (of_site NoFetchIsOut) s []
 
-abbrev pub begun_held : {A : Type 0} → Held → Result A Fault → Held
-begun_held (Resting z) (Ok a) = Fetching (record { site = z.site; fetched = z.fetched + 1 })
-begun_held (Resting z) (Err f) = Resting z
-begun_held (Fetching z) r = Fetching z
-begun_held Away r = Away
+abbrev pub begun_held : {A : Type 0} → Option Held → Result A Fault → Option Held
+begun_held (Some (Resting z)) (Ok a) = Some (Fetching (record { site = z.site; fetched = z.fetched + 1 }))
+begun_held (Some (Resting z)) (Err f) = Some (Resting z)
+begun_held (Some (Fetching z)) r = Some (Fetching z)
+begun_held None r = None
 
-abbrev pub ended_held : {A : Type 0} → Held → Result A Fault → Held
-ended_held (Resting z) r = Resting z
-ended_held (Fetching z) (Ok a) = Resting (record { site = z.site; fetched = z.fetched })
-ended_held (Fetching z) (Err f) = Fetching z
-ended_held Away r = Away
+abbrev pub ended_held : {A : Type 0} → Option Held → Result A Fault → Option Held
+ended_held (Some (Resting z)) r = Some (Resting z)
+ended_held (Some (Fetching z)) (Ok a) = Some (Resting (record { site = z.site; fetched = z.fetched }))
+ended_held (Some (Fetching z)) (Err f) = Some (Fetching z)
+ended_held None r = None

@@ -1,4 +1,4 @@
-// A rack: its sites with their tables and sessions, and one call that makes one step of a run on it.
+// A rack: its sites with their tables and sessions.
 #![tactic(auto)]
 
 pub mod station;

@@ -5,19 +5,19 @@ use waiting::items::{Replica, WaitingFetch, WaitingUpdate};
 
 mod calls;
 
-// The session, as it is at hand: resting between fetches, or fetching. It is away only while a call has it.
+/// The session, as it is at hand: resting between fetches, or fetching.
 #[derive(Drop)]
 pub enum Held {
     Resting(Idle),
     Fetching(Awaiting),
-    Away,
 }
 
+/// The session is there unless a call has it.
 #[derive(Drop)]
 pub struct Station {
     pub(crate) site: Site,
     pub(crate) copies: Vec<Replica>,
     pub(crate) updates: Vec<WaitingUpdate>,
     pub(crate) fetches: Vec<WaitingFetch>,
-    pub(crate) session: Held,
+    pub(crate) session: Option<Held>,
 }

@@ -11,9 +11,9 @@ use Rattle.protocol.specs.Applying.{no_update}
 use Rattle.protocol.specs.Serving.{no_fetch}
 use Rattle.tables.proofs.Everys.{every_at}
 
-pub found_below : {X : Type 0} (f : X → Bool) (xs : List X) (n : ℕ) → n ≤ length xs → (x : Option ℕ) → x ≡ first_where f 0 (take n xs) → IfSome x (λ i. i < n)
-found_below f xs n h None e = tt
-found_below f xs n h (Some i) e = let w = first_within f (take n xs) 0 i (sym e) in let l = length-take-le n xs h in omega arith
+pub found_below : {X : Type 0} (f : X → Bool) (xs : List X) (x : Option ℕ) → x ≡ first_where f 0 xs → IfSome x (λ i. i < length xs)
+found_below f xs None e = tt
+found_below f xs (Some i) e = let w = first_within f xs 0 i (sym e) in omega arith
 
 -- the item at a place of the list, of which every item passes a test
 passes_at : {X : Type 0} (f : X → Bool) (xs : List X) (n i : ℕ) (d : X) → n ≤ length xs → i < n → every_item f (take n xs) ≡ true → f (get_or xs i d) ≡ true

@@ -1,4 +1,3 @@
-pub mod Answers
 pub mod Opened
 pub mod Replies
 pub mod States

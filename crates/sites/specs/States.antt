@@ -16,8 +16,8 @@ use Rattle.sites.specs.declared.site.Site.{Site}
 
 abbrev pub state_of : Site → List Replica → List WaitingUpdate → List WaitingFetch → State
 state_of s copies updates fetches = record {
-  site = s.site;
-  sites = s.sites;
+  site = s.seat.site;
+  sites = s.seat.count.number;
   registers = s.registers;
   update_places = s.update_places;
   fetch_places = s.fetch_places;

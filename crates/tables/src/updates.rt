@@ -1,82 +1,54 @@
 // Waiting updates.
-ghost use Rattle.std.specs.Prelude.{◌≡◌, ◌<◌, ◌≤◌, length, take};
+ghost use Rattle.std.specs.Prelude.{◌≡◌, ◌<◌, ◌≤◌};
 ghost use Rattle.protocol.specs.Words.{update_ok, every_item, no_item};
 ghost use Rattle.tables.specs.Judging.{numbered, alike as alike_to};
 
 use crate::bits::sound;
 use crate::numbers::in_range;
+use clocks::seat::Seat;
 use values::kind::ValueKind;
 use waiting::items::WaitingUpdate;
 
-// Does an update hold no number out of range, at this site of a rack of n sites and so many registers? Its sender must count it for this site.
-pub fn update_ok<V: ValueKind + Drop>(
-    update: &WaitingUpdate,
-    site: u8,
-    n: u8,
-    registers: u16,
-) -> bool
-    requires n_bound { n ≤ 8 }
-    requires site_lt_n { site < n }
-    ensures { result ≡ update_ok V.kind (numbered site n registers) update.now }
+/// Does an update hold no number out of range, at this seat of a rack of so many registers? Its sender must count it for this site.
+pub fn update_ok<V: ValueKind + Drop>(update: &WaitingUpdate, seat: Seat, registers: u16) -> bool
+    ensures { result ≡ update_ok V.kind (numbered seat.site seat.count.number registers) update.now }
 {
-    update.sender < n
+    update.sender < seat.count.number
         && update.register < registers
         && in_range(update.number)
-        && update.matrix.within(n)
+        && update.matrix.within(seat.count)
         && sound::<V>(&update.bits)
-        && 0 < update.matrix.entry(n, update.sender, site)
+        && 0 < update.matrix.entry(seat.count, update.sender, seat.site)
 }
 
-// The same for each of the updates that wait, the first `count`.
+/// The same for each of the updates.
 pub fn updates_ok<V: ValueKind + Drop>(
     updates: &[WaitingUpdate],
-    count: usize,
-    site: u8,
-    n: u8,
+    seat: Seat,
     registers: u16,
 ) -> bool
-    requires n_bound { n ≤ 8 }
-    requires site_lt_n { site < n }
-    requires count_in_bounds { count ≤ length updates.now }
-    ensures { result ≡ every_item (update_ok V.kind (numbered site n registers)) (take count updates.now) }
+    ensures { result ≡ every_item (update_ok V.kind (numbered seat.site seat.count.number registers)) updates.now }
 {
-    for i in 0..count {
-        if !update_ok::<V>(&updates[i], site, n, registers) {
-            return false;
-        }
-    }
-    true
+    updates
+        .iter()
+        .all(|update| update_ok::<V>(update, seat, registers))
 }
 
-// Is this the update of the sender that has this count for the site?
-pub fn alike(update: &WaitingUpdate, n: u8, site: u8, sender: u8, count_here: u32) -> bool
-    requires n_bound { n ≤ 8 }
-    requires site_lt_n { site < n }
-    requires sender_lt_n { sender < n }
-    ensures { result ≡ alike_to n site sender count_here update.now }
+/// Is this the update of the sender that has this count for the site?
+pub fn alike(update: &WaitingUpdate, seat: Seat, sender: u8, count_here: u32) -> bool
+    requires { sender < seat.count.number }
+    ensures { result ≡ alike_to seat.count.number seat.site sender count_here update.now }
 {
-    update.sender == sender && update.matrix.entry(n, update.sender, site) == count_here
+    update.sender == sender
+        && update.matrix.entry(seat.count, update.sender, seat.site) == count_here
 }
 
-// Does no such update wait?
-pub fn none_alike(
-    updates: &[WaitingUpdate],
-    count: usize,
-    n: u8,
-    site: u8,
-    sender: u8,
-    count_here: u32,
-) -> bool
-    requires n_bound { n ≤ 8 }
-    requires site_lt_n { site < n }
-    requires sender_lt_n { sender < n }
-    requires count_in_bounds { count ≤ length updates.now }
-    ensures { result ≡ no_item (alike_to n site sender count_here) (take count updates.now) }
+/// Is none of the updates such a one?
+pub fn none_alike(updates: &[WaitingUpdate], seat: Seat, sender: u8, count_here: u32) -> bool
+    requires { sender < seat.count.number }
+    ensures { result ≡ no_item (alike_to seat.count.number seat.site sender count_here) updates.now }
 {
-    for i in 0..count {
-        if alike(&updates[i], n, site, sender, count_here) {
-            return false;
-        }
-    }
-    true
+    updates
+        .iter()
+        .all(|update| !alike(update, seat, sender, count_here))
 }

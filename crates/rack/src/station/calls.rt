@@ -2,26 +2,25 @@
 ghost use Rattle.std.specs.Prelude.{◌≡◌};
 ghost use Rattle.protocol.specs.Applying.{apply_rule};
 ghost use Rattle.protocol.specs.Receiving.{receive_rule};
-ghost use Rattle.protocol.specs.States.{placed};
+ghost use Rattle.protocol.specs.States.{placing};
 ghost use Rattle.protocol.specs.Writing.{write_rule};
-ghost use Rattle.sites.specs.Answers.{told, applied_told, written_told};
 ghost use Rattle.rack.specs.Stations.{station_state, idle_first};
 
 use crate::station::{Held, Station};
 use placements::{Homes, Placement};
 use protocol::answers::{Applied, Written};
-use std::mem::replace;
 use values::fault::{Fault, Refusal};
 use values::kind::ValueKind;
 
+// Stays: that the session is as it was is one short equation in each call, and a name for it says no more.
 impl Station {
     pub fn receive<V: ValueKind + Drop, P: Homes>(
         &mut self,
         placement: &P,
         bytes: &[u8],
     ) -> Result<(), Fault>
-        ensures answer { result ≡ (receive_rule V.kind (placed (P.Placement.count placement.now) (P.Placement.size placement.now) (P.Placement.held placement.now) (P.Homes.asked placement.now)) (station_state self.old) bytes.now).answer }
-        ensures after { station_state self.new ≡ (receive_rule V.kind (placed (P.Placement.count placement.now) (P.Placement.size placement.now) (P.Placement.held placement.now) (P.Homes.asked placement.now)) (station_state self.old) bytes.now).after }
+        ensures answer { result ≡ (receive_rule V.kind (placing P.Homes placement.now) (station_state self.old) bytes.now).answer }
+        ensures after { station_state self.new ≡ (receive_rule V.kind (placing P.Homes placement.now) (station_state self.old) bytes.now).after }
         ensures session { self.new.session ≡ self.old.session }
     {
         self.site.receive::<V, P>(
@@ -34,8 +33,8 @@ impl Station {
     }
 
     pub fn apply<V: ValueKind + Drop, P: Homes>(&mut self, placement: &P) -> Result<Applied, Fault>
-        ensures answer { result ≡ told applied_told (apply_rule V.kind (placed (P.Placement.count placement.now) (P.Placement.size placement.now) (P.Placement.held placement.now) (P.Homes.asked placement.now)) (station_state self.old)).answer }
-        ensures after { station_state self.new ≡ (apply_rule V.kind (placed (P.Placement.count placement.now) (P.Placement.size placement.now) (P.Placement.held placement.now) (P.Homes.asked placement.now)) (station_state self.old)).after }
+        ensures answer { result ≡ (apply_rule V.kind (placing P.Homes placement.now) (station_state self.old)).answer }
+        ensures after { station_state self.new ≡ (apply_rule V.kind (placing P.Homes placement.now) (station_state self.old)).after }
         ensures session { self.new.session ≡ self.old.session }
     {
         self.site.apply::<V, P>(
@@ -53,13 +52,13 @@ impl Station {
         value: V,
         place: &mut [u8],
     ) -> Result<Written, Fault>
-        ensures answer { result ≡ told written_told (idle_first self.old.session (λ z. write_rule V.kind (placed (P.Placement.count placement.now) (P.Placement.size placement.now) (P.Placement.held placement.now) (P.Homes.asked placement.now)) (station_state self.old) z r value place.old) (station_state self.old) place.old).answer }
-        ensures after { station_state self.new ≡ (idle_first self.old.session (λ z. write_rule V.kind (placed (P.Placement.count placement.now) (P.Placement.size placement.now) (P.Placement.held placement.now) (P.Homes.asked placement.now)) (station_state self.old) z r value place.old) (station_state self.old) place.old).after }
-        ensures place { place.new ≡ (idle_first self.old.session (λ z. write_rule V.kind (placed (P.Placement.count placement.now) (P.Placement.size placement.now) (P.Placement.held placement.now) (P.Homes.asked placement.now)) (station_state self.old) z r value place.old) (station_state self.old) place.old).place }
+        ensures answer { result ≡ (idle_first self.old.session (λ z. write_rule V.kind (placing P.Homes placement.now) (station_state self.old) z r value place.old) (station_state self.old) place.old).answer }
+        ensures after { station_state self.new ≡ (idle_first self.old.session (λ z. write_rule V.kind (placing P.Homes placement.now) (station_state self.old) z r value place.old) (station_state self.old) place.old).after }
+        ensures place { place.new ≡ (idle_first self.old.session (λ z. write_rule V.kind (placing P.Homes placement.now) (station_state self.old) z r value place.old) (station_state self.old) place.old).place }
         ensures session { self.new.session ≡ self.old.session }
     {
-        match replace(&mut self.session, Held::Away) {
-            Held::Resting(idle) => {
+        match self.session.take() {
+            Some(Held::Resting(idle)) => {
                 let (idle, answer) = self.site.write(
                     placement,
                     &mut self.copies,
@@ -70,7 +69,7 @@ impl Station {
                     value,
                     place,
                 );
-                self.session = Held::Resting(idle);
+                self.session = Some(Held::Resting(idle));
                 answer
             }
             other => {

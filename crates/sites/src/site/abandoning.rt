@@ -12,18 +12,15 @@ use crate::site::Site;
 use values::fault::Fault;
 
 impl Site {
-    // Forgets the fetch that is out; the session is idle again. A refused call hands the session back. No table is lent, and none is touched.
+    /// Forgets the fetch that is out; the session is idle again. A refused call hands the session back. No table is lent, and none is touched.
     pub fn abandon(&mut self, session: Awaiting) -> Result<Idle, (Awaiting, Fault)>
         ensures answer { result ≡ given_up session (abandon_rule (state_of self.old [] [] []) (awaiting session)).answer }
         ensures after { (copies : List Copy) (updates : List UpdateItem) (fetches : List FetchItem) → state_of self.new copies updates fetches ≡ (abandon_rule (state_of self.old copies updates fetches) (awaiting session)).after }
     {
-        match self.awaited(&session) {
-            Ok(()) => {
-                self.out = None;
-                let Awaiting { site, fetched } = session;
-                Ok(Idle { site, fetched })
-            }
-            Err(fault) => Err((session, fault)),
+        if let Err(fault) = self.awaited(&session) {
+            return Err((session, fault));
         }
+        self.out = None;
+        Ok(session.into_idle())
     }
 }

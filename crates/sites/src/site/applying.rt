@@ -2,8 +2,7 @@
 ghost use Rattle.std.specs.Prelude.{◌≡◌, ◌<◌, List, length, slice_index_or};
 ghost use Rattle.protocol.specs.Applying.{apply_rule, applied_at, no_update};
 ghost use Rattle.waiting.specs.declared.items.WaitingFetch.{WaitingFetch as FetchItem};
-ghost use Rattle.protocol.specs.States.{placed};
-ghost use Rattle.sites.specs.Answers.{told, applied_told};
+ghost use Rattle.protocol.specs.States.{placing};
 ghost use Rattle.sites.specs.States.{state_of};
 
 use crate::site::Site;
@@ -16,7 +15,7 @@ use waiting::items::{Replica, WaitingFetch, WaitingUpdate};
 use waiting::list::WaitingList;
 
 impl Site {
-    // Takes the oldest ready update out of its list; the copy of its register becomes that write.
+    /// Takes the oldest ready update out of its list; the copy of its register becomes that write.
     pub fn apply<V: ValueKind + Drop, P: Homes>(
         &mut self,
         placement: &P,
@@ -24,8 +23,8 @@ impl Site {
         updates: &mut [WaitingUpdate],
         fetches: &[WaitingFetch],
     ) -> Result<Applied, Fault>
-        ensures answer { result ≡ told applied_told (apply_rule V.kind (placed (P.Placement.count placement.now) (P.Placement.size placement.now) (P.Placement.held placement.now) (P.Homes.asked placement.now)) (state_of self.old copies.old updates.old fetches.now)).answer }
-        ensures after { state_of self.new copies.new updates.new fetches.now ≡ (apply_rule V.kind (placed (P.Placement.count placement.now) (P.Placement.size placement.now) (P.Placement.held placement.now) (P.Homes.asked placement.now)) (state_of self.old copies.old updates.old fetches.now)).after }
+        ensures answer { result ≡ (apply_rule V.kind (placing P.Homes placement.now) (state_of self.old copies.old updates.old fetches.now)).answer }
+        ensures after { state_of self.new copies.new updates.new fetches.now ≡ (apply_rule V.kind (placing P.Homes placement.now) (state_of self.old copies.old updates.old fetches.now)).after }
     {
         if !self.fits(placement, copies, updates, fetches) {
             return Err(Fault::of_site(Refusal::OtherTables));
@@ -33,10 +32,10 @@ impl Site {
         if !self.updates_ok::<V>(updates) {
             return Err(Fault::of_site(Refusal::OtherTables));
         }
-        match self.oldest(updates, self.updates_waiting) {
-            Some(index) => self.apply_at(copies, updates, index),
-            None => Err(Fault::of_site(Refusal::NoneReady)),
-        }
+        let index = self
+            .oldest(&updates[..self.updates_waiting])
+            .ok_or(Fault::of_site(Refusal::NoneReady))?;
+        self.apply_at(copies, updates, index)
     }
 
     // Takes the update at a place of the list out, unless its sender's count is at the limit; the copy of its register becomes that write.
@@ -48,9 +47,9 @@ impl Site {
     ) -> Result<Applied, Fault>
         requires index_below { index < self.old.updates_waiting }
         requires updates_len { length updates.old ≡ self.old.update_places }
-        requires sender_below { (slice_index_or updates.old index no_update).sender < self.old.sites }
+        requires sender_below { (slice_index_or updates.old index no_update).sender < self.old.seat.count.number }
         requires register_below { (slice_index_or updates.old index no_update).register < length copies.old }
-        ensures answer { (fetches : List FetchItem) → result ≡ told applied_told (applied_at (state_of self.old copies.old updates.old fetches) index (slice_index_or updates.old index no_update)).answer }
+        ensures answer { (fetches : List FetchItem) → result ≡ (applied_at (state_of self.old copies.old updates.old fetches) index (slice_index_or updates.old index no_update)).answer }
         ensures after { (fetches : List FetchItem) → state_of self.new copies.new updates.new fetches ≡ (applied_at (state_of self.old copies.old updates.old fetches) index (slice_index_or updates.old index no_update)).after }
     {
         let sender = updates[index].sender;
@@ -61,11 +60,7 @@ impl Site {
         self.updates_waiting -= 1;
         self.applied.raise(sender);
         let label = (sender, update.number);
-        copies[update.register as usize] = Replica {
-            bits: update.bits,
-            matrix: update.matrix,
-            label: Some(label),
-        };
+        copies[update.register as usize] = Replica::from(update);
         Ok(Applied {
             label,
             register: update.register,

@@ -1,7 +1,7 @@
 // Opening a site.
 ghost use Rattle.std.specs.Prelude.{◌≡◌};
 ghost use Rattle.protocol.specs.Opening.{open_rule};
-ghost use Rattle.protocol.specs.States.{placed};
+ghost use Rattle.protocol.specs.States.{placing};
 ghost use Rattle.sites.specs.Opened.{Opens};
 ghost use Rattle.sites.specs.States.{lent};
 
@@ -9,6 +9,7 @@ use crate::session::Idle;
 use crate::site::Site;
 use clocks::matrix::Matrix;
 use clocks::row::Row;
+use clocks::seat::{Seat, SiteCount};
 use placements::{Homes, Placement};
 use tables::copies::clear;
 use values::fault::{Fault, Refusal};
@@ -21,7 +22,7 @@ const UPDATE_PLACES: usize = 64;
 const FETCH_PLACES: usize = 16;
 
 impl Site {
-    // Opens a site over the caller's tables: all counts 0, the lists empty, each copy the start value without label. Answers the site and an idle session.
+    /// Opens a site over the caller's tables: all counts 0, the lists empty, each copy the start value without label. Answers the site and an idle session.
     pub fn open<V: ValueKind + Drop, P: Homes>(
         placement: &P,
         site: u8,
@@ -31,10 +32,11 @@ impl Site {
         updates: &[WaitingUpdate],
         fetches: &[WaitingFetch],
     ) -> Result<(Site, Idle), Fault>
-        ensures { Opens (open_rule V.kind (placed (P.Placement.count placement.now) (P.Placement.size placement.now) (P.Placement.held placement.now) (P.Homes.asked placement.now)) site update_places fetch_places (lent copies.old updates.now fetches.now)) result copies.new updates.now fetches.now }
+        ensures { Opens (open_rule V.kind (placing P.Homes placement.now) site update_places fetch_places (lent copies.old updates.now fetches.now)) result copies.new updates.now fetches.now }
     {
         let sites = placement.sites();
         let registers = placement.registers();
+        // Stays: by comparisons; with `contains` the proof closes only close to the limit of the search.
         if site >= sites
             || update_places < 1
             || update_places > UPDATE_PLACES
@@ -51,8 +53,10 @@ impl Site {
         }
         clear::<V>(copies);
         let opened = Site {
-            site,
-            sites,
+            seat: Seat {
+                count: SiteCount { number: sites },
+                site,
+            },
             registers,
             update_places,
             fetch_places,

@@ -2,7 +2,7 @@
 ghost use Rattle.std.specs.Prelude.{◌≡◌, ◌<◌, List, [], length};
 ghost use Rattle.frames.specs.declared.incoming.Incoming.TheVariants.{OfUpdate, OfFetch};
 ghost use Rattle.protocol.specs.Receiving.{receive_rule, received, update_for_here, fetch_for_here, update_new};
-ghost use Rattle.protocol.specs.States.{placed};
+ghost use Rattle.protocol.specs.States.{placing};
 ghost use Rattle.sites.specs.States.{state_of};
 ghost use Rattle.waiting.specs.declared.items.Replica.{Replica as CopyItem};
 ghost use Rattle.waiting.specs.declared.items.WaitingFetch.{WaitingFetch as FetchItem};
@@ -22,7 +22,7 @@ use waiting::items::{Replica, WaitingFetch, WaitingUpdate};
 use waiting::list::WaitingList;
 
 impl Site {
-    // Puts the update or the fetch that the bytes are a frame of last in its list.
+    /// Puts the update or the fetch that the bytes are a frame of last in its list.
     pub fn receive<V: ValueKind + Drop, P: Homes>(
         &mut self,
         placement: &P,
@@ -31,8 +31,8 @@ impl Site {
         fetches: &mut [WaitingFetch],
         bytes: &[u8],
     ) -> Result<(), Fault>
-        ensures answer { result ≡ (receive_rule V.kind (placed (P.Placement.count placement.now) (P.Placement.size placement.now) (P.Placement.held placement.now) (P.Homes.asked placement.now)) (state_of self.old copies.now updates.old fetches.old) bytes.now).answer }
-        ensures after { state_of self.new copies.now updates.new fetches.new ≡ (receive_rule V.kind (placed (P.Placement.count placement.now) (P.Placement.size placement.now) (P.Placement.held placement.now) (P.Homes.asked placement.now)) (state_of self.old copies.now updates.old fetches.old) bytes.now).after }
+        ensures answer { result ≡ (receive_rule V.kind (placing P.Homes placement.now) (state_of self.old copies.now updates.old fetches.old) bytes.now).answer }
+        ensures after { state_of self.new copies.now updates.new fetches.new ≡ (receive_rule V.kind (placing P.Homes placement.now) (state_of self.old copies.now updates.old fetches.old) bytes.now).after }
     {
         if !self.fits(placement, copies, updates, fetches) {
             return Err(Fault::of_site(Refusal::OtherTables));
@@ -56,11 +56,11 @@ impl Site {
         updates: &mut [WaitingUpdate],
         update: Update<V>,
     ) -> Result<(), Fault>
-        requires same_sites { P.Placement.count placement.now ≡ self.old.sites }
+        requires same_sites { P.Placement.count placement.now ≡ self.old.seat.count.number }
         requires updates_len { length updates.old ≡ self.old.update_places }
         requires sender_below { update.sender < update.sites }
-        ensures answer { (copies : List CopyItem) (fetches : List FetchItem) → result ≡ (received V.kind (placed (P.Placement.count placement.now) (P.Placement.size placement.now) (P.Placement.held placement.now) (P.Homes.asked placement.now)) (state_of self.old copies updates.old fetches) (OfUpdate update)).answer }
-        ensures after { (copies : List CopyItem) (fetches : List FetchItem) → state_of self.new copies updates.new fetches ≡ (received V.kind (placed (P.Placement.count placement.now) (P.Placement.size placement.now) (P.Placement.held placement.now) (P.Homes.asked placement.now)) (state_of self.old copies updates.old fetches) (OfUpdate update)).after }
+        ensures answer { (copies : List CopyItem) (fetches : List FetchItem) → result ≡ (received V.kind (placing P.Homes placement.now) (state_of self.old copies updates.old fetches) (OfUpdate update)).answer }
+        ensures after { (copies : List CopyItem) (fetches : List FetchItem) → state_of self.new copies updates.new fetches ≡ (received V.kind (placing P.Homes placement.now) (state_of self.old copies updates.old fetches) (OfUpdate update)).after }
     {
         if !self.update_for_here(placement, &update) {
             return Err(Fault::of_site(Refusal::NotForThisSite));
@@ -68,6 +68,7 @@ impl Site {
         if !self.update_new(updates, &update) {
             return Err(Fault::of_site(Refusal::KnownAlready));
         }
+        // Stays: no `From`, here and below: the crates of messages and of items do not know one another, and this crate owns neither.
         let item = WaitingUpdate {
             sender: update.sender,
             register: update.register,
@@ -75,10 +76,9 @@ impl Site {
             matrix: update.matrix,
             bits: plain(&update.value),
         };
-        let mut list = WaitingList::over(updates, self.updates_waiting);
-        let pushed = list.push(item);
-        self.updates_waiting = list.count();
-        pushed
+        WaitingList::over(updates, self.updates_waiting).push(item)?;
+        self.updates_waiting += 1;
+        Ok(())
     }
 
     // Puts a fetch last in its list.
@@ -88,15 +88,15 @@ impl Site {
         fetches: &mut [WaitingFetch],
         fetch: &Fetch,
     ) -> Result<(), Fault>
-        requires same_sites { P.Placement.count placement.now ≡ self.old.sites }
+        requires same_sites { P.Placement.count placement.now ≡ self.old.seat.count.number }
         requires fetches_len { length fetches.old ≡ self.old.fetch_places }
-        ensures answer { (copies : List CopyItem) (updates : List UpdateItem) → result ≡ (received V.kind (placed (P.Placement.count placement.now) (P.Placement.size placement.now) (P.Placement.held placement.now) (P.Homes.asked placement.now)) (state_of self.old copies updates fetches.old) (OfFetch fetch.now)).answer }
-        ensures after { (copies : List CopyItem) (updates : List UpdateItem) → state_of self.new copies updates fetches.new ≡ (received V.kind (placed (P.Placement.count placement.now) (P.Placement.size placement.now) (P.Placement.held placement.now) (P.Homes.asked placement.now)) (state_of self.old copies updates fetches.old) (OfFetch fetch.now)).after }
+        ensures answer { (copies : List CopyItem) (updates : List UpdateItem) → result ≡ (received V.kind (placing P.Homes placement.now) (state_of self.old copies updates fetches.old) (OfFetch fetch.now)).answer }
+        ensures after { (copies : List CopyItem) (updates : List UpdateItem) → state_of self.new copies updates fetches.new ≡ (received V.kind (placing P.Homes placement.now) (state_of self.old copies updates fetches.old) (OfFetch fetch.now)).after }
     {
         if !self.fetch_for_here(placement, fetch) {
             return Err(Fault::of_site(Refusal::NotForThisSite));
         }
-        if !none_asked_by(fetches, self.fetches_waiting, fetch.reader, fetch.number) {
+        if !none_asked_by(&fetches[..self.fetches_waiting], fetch.reader, fetch.number) {
             return Err(Fault::of_site(Refusal::KnownAlready));
         }
         let item = WaitingFetch {
@@ -105,37 +105,38 @@ impl Site {
             number: fetch.number,
             column: fetch.column,
         };
-        let mut list = WaitingList::over(fetches, self.fetches_waiting);
-        let pushed = list.push(item);
-        self.fetches_waiting = list.count();
-        pushed
+        WaitingList::over(fetches, self.fetches_waiting).push(item)?;
+        self.fetches_waiting += 1;
+        Ok(())
     }
 
     // Is the update for a rack of as many sites, of another site, of a register held here, and counted for here?
     fn update_for_here<V: ValueKind, P: Homes>(&self, placement: &P, update: &Update<V>) -> bool
-        requires same_sites { P.Placement.count placement.now ≡ self.now.sites }
+        requires same_sites { P.Placement.count placement.now ≡ self.now.seat.count.number }
         requires sender_below { update.now.sender < update.now.sites }
-        ensures { result ≡ update_for_here (placed (P.Placement.count placement.now) (P.Placement.size placement.now) (P.Placement.held placement.now) (P.Homes.asked placement.now)) (state_of self.now [] [] []) update.now }
+        ensures { result ≡ update_for_here (placing P.Homes placement.now) (state_of self.now [] [] []) update.now }
     {
-        update.sites == self.sites
-            && update.sender != self.site
+        update.sites == self.seat.count.number
+            && update.sender != self.seat.site
             && self.holds(placement, update.register)
-            && 0 < update.matrix.entry(self.sites, update.sender, self.site)
+            && 0 < update
+                .matrix
+                .entry(self.seat.count, update.sender, self.seat.site)
     }
 
     // Is the update neither applied here nor waiting?
     fn update_new<V: ValueKind>(&self, updates: &[WaitingUpdate], update: &Update<V>) -> bool
-        requires sender_below { update.now.sender < self.now.sites }
+        requires sender_below { update.now.sender < self.now.seat.count.number }
         requires updates_len { length updates.now ≡ self.now.update_places }
         ensures { result ≡ update_new (state_of self.now [] updates.now []) update.now }
     {
-        let here = update.matrix.entry(self.sites, update.sender, self.site);
+        let here = update
+            .matrix
+            .entry(self.seat.count, update.sender, self.seat.site);
         self.applied.count(update.sender) < here
             && none_alike(
-                updates,
-                self.updates_waiting,
-                self.sites,
-                self.site,
+                &updates[..self.updates_waiting],
+                self.seat,
                 update.sender,
                 here,
             )
@@ -143,12 +144,12 @@ impl Site {
 
     // Is the fetch for a rack of as many sites, of another site, of a register held here, and for this home?
     fn fetch_for_here<P: Homes>(&self, placement: &P, fetch: &Fetch) -> bool
-        requires { P.Placement.count placement.now ≡ self.now.sites }
-        ensures { result ≡ fetch_for_here (placed (P.Placement.count placement.now) (P.Placement.size placement.now) (P.Placement.held placement.now) (P.Homes.asked placement.now)) (state_of self.now [] [] []) fetch.now }
+        requires { P.Placement.count placement.now ≡ self.now.seat.count.number }
+        ensures { result ≡ fetch_for_here (placing P.Homes placement.now) (state_of self.now [] [] []) fetch.now }
     {
-        fetch.sites == self.sites
-            && fetch.reader != self.site
+        fetch.sites == self.seat.count.number
+            && fetch.reader != self.seat.site
             && self.holds(placement, fetch.register)
-            && fetch.home == self.site
+            && fetch.home == self.seat.site
     }
 }

@@ -1,10 +1,9 @@
 // Taking a reply, which ends the fetch as a local read of what it brings.
 ghost use Rattle.std.specs.Prelude.{◌≡◌, ◌≤◌, []};
 ghost use Rattle.protocol.specs.Replying.{take_rule, reply_for_here, of_the_fetch};
-ghost use Rattle.protocol.specs.States.{placed};
+ghost use Rattle.protocol.specs.States.{placing};
 ghost use Rattle.protocol.specs.Words.{caught_up};
 ghost use Rattle.clocks.specs.Matrices.{column};
-ghost use Rattle.sites.specs.Answers.{told, read_told};
 ghost use Rattle.sites.specs.States.{state_of, awaiting};
 ghost use Rattle.sites.specs.Tests.{taken_over};
 
@@ -19,8 +18,8 @@ use values::kind::ValueKind;
 use waiting::items::{Replica, WaitingFetch, WaitingUpdate};
 
 impl Site {
-    // Answers what the reply brings, if the own site has applied all that it follows and that is bound for here. The session is idle again; a refused
-    // call hands the awaiting one back.
+    /// Answers what the reply brings, if the own site has applied all that it follows and that is bound for here. The session is idle again; a refused
+    /// call hands the awaiting one back.
     pub fn take_reply<V: ValueKind + Drop, P: Homes>(
         &mut self,
         placement: &P,
@@ -30,18 +29,17 @@ impl Site {
         session: Awaiting,
         bytes: &[u8],
     ) -> Result<(Idle, Read<V>), (Awaiting, Fault)>
-        ensures answer { result ≡ taken_over session (told read_told (take_rule V.kind (placed (P.Placement.count placement.now) (P.Placement.size placement.now) (P.Placement.held placement.now) (P.Homes.asked placement.now)) (state_of self.old copies.now updates.now fetches.now) (awaiting session) bytes.now).answer) }
-        ensures after { state_of self.new copies.now updates.now fetches.now ≡ (take_rule V.kind (placed (P.Placement.count placement.now) (P.Placement.size placement.now) (P.Placement.held placement.now) (P.Homes.asked placement.now)) (state_of self.old copies.now updates.now fetches.now) (awaiting session) bytes.now).after }
+        ensures answer { result ≡ taken_over session (take_rule V.kind (placing P.Homes placement.now) (state_of self.old copies.now updates.now fetches.now) (awaiting session) bytes.now).answer }
+        ensures after { state_of self.new copies.now updates.now fetches.now ≡ (take_rule V.kind (placing P.Homes placement.now) (state_of self.old copies.now updates.now fetches.now) (awaiting session) bytes.now).after }
     {
+        // Stays: each arm moves the session, which the closures of `map` and `map_err` cannot both do.
         match self.try_take::<V, P>(placement, copies, updates, fetches, &session, bytes) {
-            Ok(read) => {
-                let Awaiting { site, fetched } = session;
-                Ok((Idle { site, fetched }, read))
-            }
+            Ok(read) => Ok((session.into_idle(), read)),
             Err(fault) => Err((session, fault)),
         }
     }
 
+    // Stays: the session comes by reference, so that `?` can refuse while the caller still owns it.
     fn try_take<V: ValueKind + Drop, P: Homes>(
         &mut self,
         placement: &P,
@@ -51,8 +49,8 @@ impl Site {
         session: &Awaiting,
         bytes: &[u8],
     ) -> Result<Read<V>, Fault>
-        ensures answer { result ≡ told read_told (take_rule V.kind (placed (P.Placement.count placement.now) (P.Placement.size placement.now) (P.Placement.held placement.now) (P.Homes.asked placement.now)) (state_of self.old copies.now updates.now fetches.now) (awaiting session.now) bytes.now).answer }
-        ensures after { state_of self.new copies.now updates.now fetches.now ≡ (take_rule V.kind (placed (P.Placement.count placement.now) (P.Placement.size placement.now) (P.Placement.held placement.now) (P.Homes.asked placement.now)) (state_of self.old copies.now updates.now fetches.now) (awaiting session.now) bytes.now).after }
+        ensures answer { result ≡ (take_rule V.kind (placing P.Homes placement.now) (state_of self.old copies.now updates.now fetches.now) (awaiting session.now) bytes.now).answer }
+        ensures after { state_of self.new copies.now updates.now fetches.now ≡ (take_rule V.kind (placing P.Homes placement.now) (state_of self.old copies.now updates.now fetches.now) (awaiting session.now) bytes.now).after }
     {
         if !self.fits(placement, copies, updates, fetches) {
             return Err(Fault::of_site(Refusal::OtherTables));
@@ -69,16 +67,12 @@ impl Site {
             return Err(Fault::of_site(Refusal::NotCaughtUp));
         }
         let Reply {
-            sites: _,
-            home: _,
-            reader: _,
-            register: _,
-            number: _,
             label,
             matrix,
             value,
+            ..
         } = reply;
-        self.sent.merge(self.sites, &matrix);
+        self.sent.merge(self.seat.count, &matrix);
         self.out = None;
         Ok(Read { value, label })
     }
@@ -87,26 +81,21 @@ impl Site {
     fn reply_for_here<V: ValueKind>(&self, reply: &Reply<V>) -> bool
         ensures { result ≡ reply_for_here (state_of self.now [] [] []) reply.now }
     {
-        reply.sites == self.sites && reply.reader == self.site
+        reply.sites == self.seat.count.number && reply.reader == self.seat.site
     }
 
     // Has it the number, the register and the home of the fetch that is out?
     fn of_the_fetch<V: ValueKind>(&self, reply: &Reply<V>) -> bool
         ensures { result ≡ of_the_fetch (state_of self.now [] [] []) reply.now }
     {
-        match self.out {
-            Some((register, home)) => reply.number == self.fetched
-                && register == reply.register
-                && home == reply.home,
-            None => false,
-        }
+        reply.number == self.fetched && self.out == Some((reply.register, reply.home))
     }
 
     // The second gate: has this site applied all that the reply's write follows and that is bound for here?
     fn caught_up<V: ValueKind>(&self, reply: &Reply<V>) -> bool
-        ensures { result ≡ caught_up (state_of self.now [] [] []) (column self.now.sites reply.now.matrix.counts self.now.site) }
+        ensures { result ≡ caught_up (state_of self.now [] [] []) (column self.now.seat.count.number reply.now.matrix.counts self.now.seat.site) }
     {
         self.applied
-            .nowhere_below(self.sites, &reply.matrix.column(self.sites, self.site))
+            .nowhere_below(self.seat.count, &reply.matrix.column(self.seat))
     }
 }

@@ -8,4 +8,4 @@ pub returns : goal.returns
 returns g c =
     let m = c.args.placement.now in
     let o = c.args.self.now in
-    c.has.ensures ∙ ap (λ set. has set o.site) c.holders.ensures ∙ has_told (g.P.Placement.count m) o.site (g.P.Placement.held m c.args.r) (omega (arith, c.requires, o.inside.0))
+    c.has.ensures ∙ ap (λ set. has set o.seat.site) c.holders.ensures ∙ has_told (g.P.Placement.count m) o.seat.site (g.P.Placement.held m c.args.r) (omega (arith, c.requires, o.seat.inside))

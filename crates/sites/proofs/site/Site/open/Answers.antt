@@ -1,10 +1,10 @@
-use Rattle.std.proofs.Common.{◌*◌, rules}
+-- Counts that are all 0 keep to the limit.
+use Rattle.std.proofs.Common.{◌*◌}
 use Rattle.sites.proofs.Limits.{zeros_within}
 use Rattle.sites.proofs.site.Site.open.Goals as goal
 
-pub invariant_of-opened : goal.invariant_of-opened
-invariant_of-opened g c =
-    let n = c.sites-sites.result in
-    let few = g.met.P.Placement.few c.args.placement.now in
-    let sized = g.met.P.Placement.sized c.args.placement.now in
-    record { inside = search rules; updates_fit = search rules; fetches_fit = search rules; numbers_within = search rules; sent_within = zeros_within (n * n) 64 c.zero.result.counts c.zero.ensures; applied_within = zeros_within n 8 c.zero-2.result.counts c.zero-2.ensures }
+pub invariant_of-opened-3-clause-sent_within : goal.invariant_of-opened-3-clause-sent_within
+invariant_of-opened-3-clause-sent_within g c = zeros_within (c.sites-sites.result * c.sites-sites.result) 64 c.zero.result.counts c.zero.ensures
+
+pub invariant_of-opened-3-clause-applied_within : goal.invariant_of-opened-3-clause-applied_within
+invariant_of-opened-3-clause-applied_within g c = zeros_within c.sites-sites.result 8 c.zero-2.result.counts c.zero-2.ensures

@@ -3,7 +3,12 @@ use sites::session::{Awaiting, Idle};
 use sites::site::Site;
 use waiting::items::{Replica, WaitingFetch, WaitingUpdate};
 
+mod abandoning;
 mod calls;
+mod fetching;
+mod reading;
+mod replying;
+mod serving;
 
 /// The session, as it is at hand: resting between fetches, or fetching.
 #[derive(Drop)]

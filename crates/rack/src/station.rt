@@ -9,6 +9,7 @@ mod fetching;
 mod reading;
 mod replying;
 mod serving;
+mod session;
 
 /// The session, as it is at hand: resting between fetches, or fetching.
 #[derive(Drop)]

@@ -3,8 +3,9 @@ ghost use Rattle.std.specs.Prelude.{◌≡◌};
 ghost use Rattle.protocol.specs.Replying.{abandon_rule};
 ghost use Rattle.rack.specs.Stations.{station_state, awaiting_first, ended_held};
 
+use crate::station::session::take_awaiting;
 use crate::station::{Held, Station};
-use values::fault::{Fault, Refusal};
+use values::fault::Fault;
 
 impl Station {
     /// Forgets the fetch that is out; the session at hand rests from then on.
@@ -13,20 +14,16 @@ impl Station {
         ensures after { station_state self.new ≡ (awaiting_first self.old.session (λ z. abandon_rule (station_state self.old) z) (station_state self.old)).after }
         ensures session { self.new.session ≡ ended_held self.old.session result }
     {
-        match self.session.take() {
-            Some(Held::Fetching(awaiting)) => match self.site.abandon(awaiting) {
-                Ok(idle) => {
-                    self.session = Some(Held::Resting(idle));
-                    Ok(())
-                }
-                Err((awaiting, fault)) => {
-                    self.session = Some(Held::Fetching(awaiting));
-                    Err(fault)
-                }
-            },
-            other => {
-                self.session = other;
-                Err(Fault::of_site(Refusal::NoFetchIsOut))
+        let awaiting = take_awaiting(&mut self.session)?;
+        // Stays: each arm moves the session, which the closures of `map` and `map_err` cannot both do.
+        match self.site.abandon(awaiting) {
+            Ok(idle) => {
+                self.session = Some(Held::Resting(idle));
+                Ok(())
+            }
+            Err((awaiting, fault)) => {
+                self.session = Some(Held::Fetching(awaiting));
+                Err(fault)
             }
         }
     }

@@ -6,10 +6,11 @@ ghost use Rattle.protocol.specs.States.{placing};
 ghost use Rattle.protocol.specs.Writing.{write_rule};
 ghost use Rattle.rack.specs.Stations.{station_state, idle_first};
 
+use crate::station::session::take_idle;
 use crate::station::{Held, Station};
 use placements::{Homes, Placement};
 use protocol::answers::{Applied, Written};
-use values::fault::{Fault, Refusal};
+use values::fault::Fault;
 use values::kind::ValueKind;
 
 // Stays: that the session is as it was is one short equation in each call, and a name for it says no more.
@@ -57,25 +58,18 @@ impl Station {
         ensures place { place.new ≡ (idle_first self.old.session (λ z. write_rule V.kind (placing P.Homes placement.now) (station_state self.old) z r value place.old) (station_state self.old) place.old).place }
         ensures session { self.new.session ≡ self.old.session }
     {
-        match self.session.take() {
-            Some(Held::Resting(idle)) => {
-                let (idle, answer) = self.site.write(
-                    placement,
-                    &mut self.copies,
-                    &self.updates,
-                    &self.fetches,
-                    idle,
-                    r,
-                    value,
-                    place,
-                );
-                self.session = Some(Held::Resting(idle));
-                answer
-            }
-            other => {
-                self.session = other;
-                Err(Fault::of_site(Refusal::FetchIsOut))
-            }
-        }
+        let idle = take_idle(&mut self.session)?;
+        let (idle, answer) = self.site.write(
+            placement,
+            &mut self.copies,
+            &self.updates,
+            &self.fetches,
+            idle,
+            r,
+            value,
+            place,
+        );
+        self.session = Some(Held::Resting(idle));
+        answer
     }
 }

@@ -4,10 +4,11 @@ ghost use Rattle.protocol.specs.Reading.{read_rule};
 ghost use Rattle.protocol.specs.States.{placing};
 ghost use Rattle.rack.specs.Stations.{station_state, idle_first};
 
+use crate::station::session::take_idle;
 use crate::station::{Held, Station};
 use placements::{Homes, Placement};
 use protocol::answers::Read;
-use values::fault::{Fault, Refusal};
+use values::fault::Fault;
 use values::kind::ValueKind;
 
 impl Station {
@@ -21,23 +22,16 @@ impl Station {
         ensures after { station_state self.new ≡ (idle_first self.old.session (λ z. read_rule V.kind (placing P.Homes placement.now) (station_state self.old) z r) (station_state self.old) []).after }
         ensures session { self.new.session ≡ self.old.session }
     {
-        match self.session.take() {
-            Some(Held::Resting(idle)) => {
-                let (idle, answer) = self.site.read::<V, P>(
-                    placement,
-                    &self.copies,
-                    &self.updates,
-                    &self.fetches,
-                    idle,
-                    r,
-                );
-                self.session = Some(Held::Resting(idle));
-                answer
-            }
-            other => {
-                self.session = other;
-                Err(Fault::of_site(Refusal::FetchIsOut))
-            }
-        }
+        let idle = take_idle(&mut self.session)?;
+        let (idle, answer) = self.site.read::<V, P>(
+            placement,
+            &self.copies,
+            &self.updates,
+            &self.fetches,
+            idle,
+            r,
+        );
+        self.session = Some(Held::Resting(idle));
+        answer
     }
 }

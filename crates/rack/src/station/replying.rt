@@ -4,10 +4,11 @@ ghost use Rattle.protocol.specs.Replying.{take_rule};
 ghost use Rattle.protocol.specs.States.{placing};
 ghost use Rattle.rack.specs.Stations.{station_state, awaiting_first, ended_held};
 
+use crate::station::session::take_awaiting;
 use crate::station::{Held, Station};
 use placements::{Homes, Placement};
 use protocol::answers::Read;
-use values::fault::{Fault, Refusal};
+use values::fault::Fault;
 use values::kind::ValueKind;
 
 impl Station {
@@ -21,27 +22,23 @@ impl Station {
         ensures after { station_state self.new ≡ (awaiting_first self.old.session (λ z. take_rule V.kind (placing P.Homes placement.now) (station_state self.old) z bytes.now) (station_state self.old)).after }
         ensures session { self.new.session ≡ ended_held self.old.session result }
     {
-        match self.session.take() {
-            Some(Held::Fetching(awaiting)) => match self.site.take_reply::<V, P>(
-                placement,
-                &self.copies,
-                &self.updates,
-                &self.fetches,
-                awaiting,
-                bytes,
-            ) {
-                Ok((idle, read)) => {
-                    self.session = Some(Held::Resting(idle));
-                    Ok(read)
-                }
-                Err((awaiting, fault)) => {
-                    self.session = Some(Held::Fetching(awaiting));
-                    Err(fault)
-                }
-            },
-            other => {
-                self.session = other;
-                Err(Fault::of_site(Refusal::NoFetchIsOut))
+        let awaiting = take_awaiting(&mut self.session)?;
+        // Stays: each arm moves the session, which the closures of `map` and `map_err` cannot both do.
+        match self.site.take_reply::<V, P>(
+            placement,
+            &self.copies,
+            &self.updates,
+            &self.fetches,
+            awaiting,
+            bytes,
+        ) {
+            Ok((idle, read)) => {
+                self.session = Some(Held::Resting(idle));
+                Ok(read)
+            }
+            Err((awaiting, fault)) => {
+                self.session = Some(Held::Fetching(awaiting));
+                Err(fault)
             }
         }
     }

@@ -5,12 +5,12 @@ use values::fault::Fault;
 
 // What a refusal holds: number, layer and place.
 // Stays: as in the tests of two crates below, since tests share no code across crates.
-pub fn parts(fault: Fault) -> (u8, u8, u32) {
+pub(crate) fn parts(fault: Fault) -> (u8, u8, u32) {
     (fault.number(), fault.layer(), fault.place())
 }
 
 // Fails the test unless this holds.
-pub fn check(holds: bool) -> Result<(), &'static str>
+pub(crate) fn check(holds: bool) -> Result<(), &'static str>
     ensures { IfOk result (λ _. IsTrue holds) }
 {
     if holds {

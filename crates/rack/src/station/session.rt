@@ -1,6 +1,6 @@
 // The session that is at hand at a station, taken for a call.
 // Stays: two functions, since case and refusal differ in each, and a closure for both would say them once more.
-ghost use Rattle.std.specs.Prelude.{◌≡◌, OnErr};
+ghost use Rattle.std.specs.Prelude.{◌≡◌, OnOk, OnErr};
 ghost use Rattle.rack.specs.Stations.{resting, fetching};
 
 use crate::station::Held;
@@ -10,6 +10,7 @@ use values::fault::{Fault, Refusal};
 // Takes an idle session; refused with 4, and left there, where another is at hand.
 pub(crate) fn take_idle(session: &mut Option<Held>) -> Result<Idle, Fault>
     ensures answer { result ≡ resting session.old }
+    ensures taken { OnOk result (session.new ≡ None) }
     ensures same { OnErr result (session.new ≡ session.old) }
 {
     match session.take() {
@@ -24,6 +25,7 @@ pub(crate) fn take_idle(session: &mut Option<Held>) -> Result<Idle, Fault>
 // Takes an awaiting session; refused with 7, and left there, where another is at hand.
 pub(crate) fn take_awaiting(session: &mut Option<Held>) -> Result<Awaiting, Fault>
     ensures answer { result ≡ fetching session.old }
+    ensures taken { OnOk result (session.new ≡ None) }
     ensures same { OnErr result (session.new ≡ session.old) }
 {
     match session.take() {

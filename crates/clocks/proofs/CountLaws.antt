@@ -1,13 +1,13 @@
 -- Tests of every count below a number, and lists of which the first places are anew: what holds at each place, by
 -- induction on how many places there are. A loop that writes place after place comes to the same list.
-use Rattle.std.proofs.Common.{◌≡◌, ℕ, zero, suc, ◌+◌, ◌-◌, ◌<◌, ◌≤◌, Bool, true, false, leb, List, [], ◌∷◌, ◌++◌, map, length, get_or, take, drop, set, replicate, sym, refl, ap, ◌∙◌, ⊎_elim, append_assoc, arith}
+use Rattle.std.proofs.Common.{◌≡◌, ℕ, zero, suc, ◌+◌, ◌-◌, ◌<◌, ◌≤◌, Bool, true, false, leb, List, [], ◌∷◌, ◌++◌, map, length, get_or, take, drop, set, replicate, sym, refl, ap, ◌∙◌, ⊎_elim, append_assoc, add-one, arith}
 use Rattle.std.specs.Prelude.{◌↔◌}
 use Rattle.std.specs.List.{range_with_len, list_all}
 use Rattle.std.proofs.lemmas.List.FromFn.{length-map-range_with_len, get_or-map-range_with_len, map-range_with_len_more}
 use Rattle.std.proofs.lemmas.List.{set_at, get_or_append_left, get_or-append_right, get_or-drop, length-append, length-drop, drop_more, drop_all, append-nil, length-take-le, get_or-take, get_or_default, ext_get_or}
 use Rattle.std.proofs.lemmas.List.Sums.{AllPass-from_list_all, list_all-from_AllPass}
 use Rattle.std.proofs.lemmas.Grind.{common_steps}
-use Rattle.std.proofs.lemmas.Bool.{both_ways, false_from_ne_true, cases_Bool, and_parts, and_from, cases_lt, cases_eq, leb-true, le-leb}
+use Rattle.std.proofs.lemmas.Bool.{both_ways, false≢true, false_from_ne_true, cases_Bool, and_cases, and_parts, and_from, and_left, and_right, cases_lt, cases_eq, leb-true, le-leb}
 use Rattle.clocks.specs.Counts.{limit, every, within, anew}
 
 -- a list of zeros
@@ -18,6 +18,14 @@ zeros_at (suc n) zero = refl
 zeros_at (suc n) (suc j) = zeros_at n j
 
 -- every
+
+pub every_none : (f : ℕ → Bool) → every 0 f ≡ true
+unfolding every
+every_none f = refl
+
+pub every_more : (n : ℕ) (f : ℕ → Bool) → every n f ≡ true → f n ≡ true → every (n + 1) f ≡ true
+unfolding every
+every_more n f h k = rw (add-one, k, h)
 
 pub every_at : (n : ℕ) (f : ℕ → Bool) → every n f ≡ true → (i : ℕ) → i < n → f i ≡ true
 unfolding every
@@ -30,6 +38,22 @@ pub every_from : (n : ℕ) (f : ℕ → Bool) → ((i : ℕ) → i < n → f i �
 unfolding every
 every_from zero f h = refl
 every_from (suc n) f h = and_from (f n) (every n f) (h n (omega arith)) (every_from n f (λ i l. h i (omega arith)))
+
+pub every_fails : (n : ℕ) (f : ℕ → Bool) (i : ℕ) → i < n → f i ≡ false → every n f ≡ false
+unfolding every
+every_fails zero f i l h = absurd (omega arith)
+every_fails (suc n) f i l h =
+    ⊎_elim (λ m. and_right (f n) (every n f) (every_fails n f i m h)) (λ m. let e : n ≡ i = omega arith in and_left (f n) (every n f) (rw e h)) (cases_lt i n)
+
+-- one that fails is found
+pub every_misses : (n : ℕ) (f : ℕ → Bool) → every n f ≡ false → (i : ℕ) × (i < n) × (f i ≡ false)
+unfolding every
+every_misses zero f h = absurd (false≢true (sym h))
+every_misses (suc n) f h =
+    ⊎_elim
+    (λ (e : f n ≡ false). (n, omega arith, e))
+    (λ (e : every n f ≡ false). let r = every_misses n f e in (r.0, omega (arith, r.1), r.2))
+    (and_cases (f n) (every n f) h)
 
 -- what a test answers that asks f of each number below n
 pub every_asked : (n : ℕ) (f : ℕ → Bool) (r : Bool) → ((r ≡ true) ↔ ((i : ℕ) → i < n → f i ≡ true)) → r ≡ every n f

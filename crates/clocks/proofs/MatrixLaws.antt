@@ -1,24 +1,38 @@
 -- What the operations on matrices give, entry by entry. Rows stand one after the other, so a place tells its row and its
 -- column. What is said of entries holds of a list of any length; only the lengths ask that it has all n * n counts.
-use Rattle.std.proofs.Common.{◌≡◌, ℕ, ◌+◌, ◌^◌, ◌*◌, ◌/◌, ◌%◌, ◌<◌, ◌≤◌, max, true, cond, not, ◌&&◌, ◌||◌, eqb, ltb, List, length, get_or, drop, replicate, refl, ap, ◌∙◌, subst, ⊎_elim, arith, rules}
+use Rattle.std.proofs.Common.{◌≡◌, ℕ, ◌+◌, ◌^◌, ◌*◌, ◌/◌, ◌%◌, ◌<◌, ◌≤◌, max, true, false, cond, not, ◌&&◌, ◌||◌, eqb, ltb, List, length, get_or, drop, replicate, refl, sym, ap, ◌∙◌, subst, ⊎_elim, arith, rules}
 use native.Mathlib.Nat.{max-le}
 use borrow.Rule.Slice.PartMut.{mid_of, put_mid}
 use Rattle.std.proofs.lemmas.Nat.{mul-add-lt, mul-le, div-mul-add, mod-mul-add, div_below, div-add-mod', mod_below}
-use Rattle.std.proofs.lemmas.Bool.{cases_lt, cases_order, cases_Bool, eq-eqb, ne_eqb, both_ways, not-true, ltb-true, or_cases, and_parts, eqb-true}
+use Rattle.std.proofs.lemmas.Bool.{cases_lt, cases_order, cases_Bool, eq-eqb, ne_eqb, both_ways, not-true, not_from_true, not_from_false, lt-ltb, le-ltb, ltb-true, or_from, or_left, or_right, or_cases, and_parts, eqb-true}
 use Rattle.std.proofs.lemmas.List.{length-take, length-drop, get_or-take, get_or-drop, places}
 use Rattle.std.proofs.lemmas.Slice.{overwrites}
 use Rattle.clocks.specs.Counts.{limit, within, anew}
 use Rattle.clocks.specs.Matrices.{entry, raised, room, merged, column}
 use Rattle.clocks.specs.Sites.{has}
-use Rattle.clocks.proofs.CountLaws.{zeros_at, every_at, within_at, within_from, anew_at, anew_length, anew_from, anew_next}
+use Rattle.clocks.proofs.CountLaws.{zeros_at, every_at, every_from, every_fails, within_at, within_from, anew_at, anew_behind, anew_length, anew_from, anew_next}
 
 -- places
 
 pub place_lt : (n k l : ℕ) → k < n → l < n → k * n + l < n * n
 place_lt n k l a b = mul-add-lt k n l n a b
 
+-- a row stands before the next ones
+pub place_before : (n k l i : ℕ) → k < i → l < n → k * n + l < i * n
+place_before n k l i a b = omega (arith, mul-add-lt k n l i a b)
+
+pub place_behind : (n k l i : ℕ) → i < k → i * n + n ≤ k * n + l
+place_behind n k l i a = omega (arith, mul-le (i + 1) n k n (omega arith) (omega arith))
+
 pub area_le : (n : ℕ) → n ≤ 8 → n * n ≤ 64
 area_le n h = mul-le n n 8 8 h h
+
+-- a place has one row and one column
+pub place_same : (n k l i j : ℕ) → l < n → j < n → k * n + l ≡ i * n + j → (k ≡ i) × (l ≡ j)
+place_same n k l i j a b e = (
+  sym (div-mul-add k n l a) ∙ ap (λ t. t / n) e ∙ div-mul-add i n j b,
+  sym (mod-mul-add k n l a) ∙ ap (λ t. t % n) e ∙ mod-mul-add i n j b,
+)
 
 -- zero
 
@@ -35,10 +49,14 @@ raised_entry n m i holders k l a b =
     anew_at (n * n) (λ j. get_or m j 0 + cond (eqb (j / n) i && has holders (j % n)) 1 0) m (k * n + l) (place_lt n k l a b)
     ∙ rw (div-mul-add k n l b, mod-mul-add k n l b)
 
+-- what belongs to nobody stays
+pub raised_behind : (n : ℕ) (m : List ℕ) (i holders j : ℕ) → n * n ≤ j → get_or (raised n m i holders) j 0 ≡ get_or m j 0
+raised_behind n m i holders j h = anew_behind (n * n) (λ j. get_or m j 0 + cond (eqb (j / n) i && has holders (j % n)) 1 0) m j h
+
 -- room
 
 module _ (n : ℕ) (m : List ℕ) (i holders : ℕ) where
-  room_at : room n m i holders ≡ true → (l : ℕ) → l < n → has holders l ≡ true → entry n m i l < limit
+  pub room_at : room n m i holders ≡ true → (l : ℕ) → l < n → has holders l ≡ true → entry n m i l < limit
   room_at h l b e =
       let q = every_at n (λ l. not (has holders l) || ltb (entry n m i l) limit) h l b in
       ⊎_elim (λ z. absurd (both_ways (has holders l) (not-true (has holders l) z) e)) (λ z. ltb-true (entry n m i l) limit z) (or_cases (not (has holders l)) (ltb (entry n m i l) limit) q)
@@ -48,6 +66,21 @@ module _ (n : ℕ) (m : List ℕ) (i holders : ℕ) where
   room_fits h l b w =
       ⊎_elim (λ e. let r = room_at h l b e in rw e (omega arith)) (λ e. rw e (omega arith)) (cases_Bool (has holders l))
 
+  pub room_each : (l : ℕ) → (has holders l ≡ true → entry n m i l < limit) → (not (has holders l) || ltb (entry n m i l) limit) ≡ true
+  room_each l h =
+      ⊎_elim
+      (λ e. or_right (not (has holders l)) (ltb (entry n m i l) limit) (lt-ltb (entry n m i l) limit (h e)))
+      (λ e. or_left (not (has holders l)) (ltb (entry n m i l) limit) (not_from_false (has holders l) e))
+      (cases_Bool (has holders l))
+
+  pub room_from : ((l : ℕ) → l < n → has holders l ≡ true → entry n m i l < limit) → room n m i holders ≡ true
+  room_from h = every_from n (λ l. not (has holders l) || ltb (entry n m i l) limit) (λ l b. room_each l (h l b))
+
+  pub room_fails : (l : ℕ) → l < n → has holders l ≡ true → limit ≤ entry n m i l → room n m i holders ≡ false
+  room_fails l b e h =
+      every_fails n (λ l. not (has holders l) || ltb (entry n m i l) limit) l b
+      (or_from (not (has holders l)) (ltb (entry n m i l) limit) (not_from_true (has holders l) e) (le-ltb (entry n m i l) limit h))
+
 -- merged
 
 pub merged_length : (n : ℕ) (m other : List ℕ) → n * n ≤ length m → length (merged n m other) ≡ length m
@@ -55,6 +88,9 @@ merged_length n m other h = anew_length (n * n) (λ j. max (get_or m j 0) (get_o
 
 pub merged_entry : (n : ℕ) (m other : List ℕ) (k l : ℕ) → k < n → l < n → entry n (merged n m other) k l ≡ max (entry n m k l) (entry n other k l)
 merged_entry n m other k l a b = anew_at (n * n) (λ j. max (get_or m j 0) (get_or other j 0)) m (k * n + l) (place_lt n k l a b)
+
+pub merged_behind : (n : ℕ) (m other : List ℕ) (j : ℕ) → n * n ≤ j → get_or (merged n m other) j 0 ≡ get_or m j 0
+merged_behind n m other j h = anew_behind (n * n) (λ j. max (get_or m j 0) (get_or other j 0)) m j h
 
 -- column
 
@@ -64,12 +100,15 @@ column_length n m l h = anew_length n (λ k. entry n m k l) (replicate 8 0) h
 pub column_count : (n : ℕ) (m : List ℕ) (l k : ℕ) → k < n → get_or (column n m l) k 0 ≡ entry n m k l
 column_count n m l k h = anew_at n (λ k. entry n m k l) (replicate 8 0) k h
 
+pub column_behind : (n : ℕ) (m : List ℕ) (l k : ℕ) → n ≤ k → get_or (column n m l) k 0 ≡ 0
+column_behind n m l k h = anew_behind n (λ k. entry n m k l) (replicate 8 0) k h ∙ zeros_at 8 k
+
 -- within
 
 pub within_entry : (n : ℕ) (m : List ℕ) → within (n * n) m ≡ true → (k l : ℕ) → k < n → l < n → entry n m k l ≤ limit
 within_entry n m h k l a b = within_at (n * n) m h (k * n + l) (place_lt n k l a b)
 
-within_entries : (n : ℕ) (m : List ℕ) → ((k l : ℕ) → k < n → l < n → entry n m k l ≤ limit) → within (n * n) m ≡ true
+pub within_entries : (n : ℕ) (m : List ℕ) → ((k l : ℕ) → k < n → l < n → entry n m k l ≤ limit) → within (n * n) m ≡ true
 within_entries n m h =
     within_from (n * n) m
     (λ j b.

@@ -1,10 +1,11 @@
 -- A set of sites and its number say the same: each bit of the number is the set's answer for its site, by induction on
 -- the number of sites.
-use Rattle.std.proofs.Common.{◌≡◌, ℕ, zero, suc, ◌+◌, ◌-◌, ◌*◌, ◌/◌, ◌%◌, ◌^◌, ◌<◌, ◌≤◌, Bool, true, false, cond, not, ◌&&◌, ◌||◌, eqb, refl, ◌∙◌, ⊎_elim, pow-suc, add-one, arith}
+use Rattle.std.proofs.Common.{◌≡◌, ℕ, zero, suc, ◌+◌, ◌-◌, ◌*◌, ◌/◌, ◌%◌, ◌^◌, ◌<◌, ◌≤◌, Bool, true, false, cond, not, ◌&&◌, ◌||◌, eqb, sym, refl, ap, ◌∙◌, ⊎_elim, pow-suc, add-one, arith}
+use native.Mathlib.Nat.{mod-one}
 use Rattle.std.specs.Int.Bits.{bit_and, bit_or, or_add_and}
-use Rattle.std.proofs.lemmas.Nat.{pow_pos, pow_below, one_shl, mod_below, or_lt, and_comm, and-not}
+use Rattle.std.proofs.lemmas.Nat.{pow_pos, pow_below, one_shl, mod_below, mod-pow-add, or_lt, and_comm, and-not}
 use Rattle.std.proofs.lemmas.Nat.Bits.{and_pow, bit_at_or, bit_at-pow_same, bit_at-pow_other, bit_at_cat_low, bit_at_cat_high, bit_at_above, same_from_bits_below}
-use Rattle.std.proofs.lemmas.Bool.{cases_Bool, cases_lt, cases_eq, eq-eqb, ne_eqb}
+use Rattle.std.proofs.lemmas.Bool.{cases_Bool, cases_lt, cases_eq, eq-eqb, eqb-true, ne_eqb}
 use Rattle.std.proofs.lemmas.Bool.Decides.{nat_tests}
 use Rattle.clocks.specs.Sites.{has, told, with_site, without_site}
 
@@ -56,7 +57,7 @@ told_full (suc k) f h =
 -- has, of a set that is told
 
 -- the bit of site l is what f says of it
-told_bit : (n l : ℕ) (f : ℕ → Bool) → l < n → told n f / 2 ^ l % 2 ≡ cond (f l) 1 0
+pub told_bit : (n l : ℕ) (f : ℕ → Bool) → l < n → told n f / 2 ^ l % 2 ≡ cond (f l) 1 0
 unfolding told
 told_bit zero l f h = absurd (omega arith)
 told_bit (suc k) l f h =
@@ -84,6 +85,16 @@ told_from n m f b h = same_from_bits_below n (told n f) m (told_lt n f) b (λ l 
 -- what a set says of a site is its bit
 has_bit : (m l : ℕ) → ◌≡◌ {A = ℕ} (cond (has m l) 1 0) (m / 2 ^ l % 2)
 has_bit m l = let b = mod_below (m / 2 ^ l) 2 (omega arith) in grind (arith, nat_tests)
+
+pub told_has : (n m : ℕ) → told n (has m) ≡ m % 2 ^ n
+unfolding told
+told_has zero m = sym (mod-one m)
+told_has (suc k) m =
+    let i = told_has k m in
+    let o : 1 + k ≡ suc k = omega arith in
+    let q : m % 2 ^ suc k ≡ (m / 2 ^ k % 2) * 2 ^ k + m % 2 ^ k = ap (λ t. m % 2 ^ t) (sym o) ∙ mod-pow-add m 1 k in
+    let b : m / 2 ^ k % 2 < 2 = mod_below (m / 2 ^ k) 2 (omega arith) in
+    grind (arith, nat_tests)
 
 -- a number below 2 ^ n is the set of its sites below n
 pub told_number : (n m : ℕ) → m < 2 ^ n → told n (has m) ≡ m
@@ -119,6 +130,10 @@ told_with n w f h =
     rw q (omega arith))
     (cases_eq l w)))
 
+-- a set of n sites stays one
+pub with_site_lt : (n m w : ℕ) → m < 2 ^ n → w < n → with_site m w < 2 ^ n
+with_site_lt n m w h k = rw (← or_site m w) (or_lt n m (2 ^ w) h (pow_below w n k))
+
 pub told_without : (n w : ℕ) (f : ℕ → Bool) → w < n → told n (λ l. f l && not (eqb l w)) ≡ without_site (told n f) w
 told_without n w f h =
     let g : ℕ → Bool = λ l. f l && not (eqb l w) in
@@ -132,6 +147,14 @@ told_without n w f h =
     rw (has_told n w f h, e)
     (told_same n g f (λ l y. ⊎_elim (λ t. rw (eq-eqb l w t, t, e)) (λ t. rw (ne_eqb l w t) (grind (arith, nat_tests))) (cases_eq l w))))
     (cases_Bool (f w))
+
+-- a site of a set counts in its number
+pub has_le : (m l : ℕ) → has m l ≡ true → 2 ^ l ≤ m
+has_le m l e =
+    ⊎_elim
+    (λ (q : m < 2 ^ l). let z = bit_at_above m l l q (omega arith) in let o : m / 2 ^ l % 2 ≡ 1 = eqb-true _ 1 e in absurd (omega arith))
+    (λ (q : 2 ^ l ≤ m). q)
+    (cases_lt m (2 ^ l))
 
 -- the code's mask of site l, a byte
 module _ (m l : ℕ) (h : l < 8) where

@@ -1,2 +1,3 @@
+pub mod HeldLaws
 pub mod WitnessLaws
 pub mod ListedSteps

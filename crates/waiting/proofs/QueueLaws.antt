@@ -1,12 +1,28 @@
--- Laws of waiting lists: what a search finds, and what taking an item out and putting one behind leave.
-use Rattle.std.proofs.Common.{◌≡◌, ℕ, suc, ◌+◌, ◌-◌, ◌<◌, ◌≤◌, Bool, cond, not, List, [], ◌∷◌, ◌++◌, map, append_assoc, ltb, length, take, drop, set, Some, None, Option, sym, refl, ap, ◌∙◌, add-one, zero-add, arith, rules}
-use Rattle.std.proofs.lemmas.List.{places, same_lists, length-map, take_more_set}
+-- Laws of waiting lists: what a search finds, and what taking an item out and putting one behind leave, place by place.
+use Rattle.std.proofs.Common.{◌≡◌, ℕ, suc, ◌+◌, ◌-◌, ◌<◌, ◌≤◌, Bool, true, false, cond, not, List, [], ◌∷◌, ◌++◌, map, append_assoc, ltb, length, get_or, take, drop, set, Some, None, Option, sym, refl, ap, ◌∙◌, add-one, zero-add, arith, rules}
+use Rattle.std.proofs.lemmas.List.{places, same_lists, length-map, take_more_set, drop_more, drop_all}
 use Rattle.std.proofs.lemmas.Bool.Decides.{nat_tests}
 use Rattle.std.specs.List.{copy_within, position, position_or_len}
 use Rattle.waiting.specs.Queues.{first_where, closed_up}
 
+-- one move of the followers none of which is there
+pub closed_none : {X : Type 0} (xs : List X) (i : ℕ) → i < length xs → closed_up i (i + 1) xs ≡ xs
+closed_none xs i h = same_lists _ _ (search (rules, places)) (λ k d l. grind (arith, places))
+
 pub closed_length : {X : Type 0} (xs : List X) (i n : ℕ) → i < n → n ≤ length xs → length (closed_up i n xs) ≡ length xs
 closed_length xs i n h l = search (rules, places)
+
+-- what stands before the item that is taken stays
+pub closed_below : {X : Type 0} (xs : List X) (i n k : ℕ) (d : X) → i < n → n ≤ length xs → k < i → get_or (closed_up i n xs) k d ≡ get_or xs k d
+closed_below xs i n k d h l b = search (rules, places)
+
+-- the later ones move up
+pub closed_mid : {X : Type 0} (xs : List X) (i n k : ℕ) (d : X) → i < n → n ≤ length xs → i ≤ k → k + 1 < n → get_or (closed_up i n xs) k d ≡ get_or xs (k + 1) d
+closed_mid xs i n k d h l b m = grind (arith, places)
+
+-- the places behind the list stay
+pub closed_past : {X : Type 0} (xs : List X) (i n k : ℕ) (d : X) → i < n → n ≤ length xs → n ≤ k + 1 → get_or (closed_up i n xs) k d ≡ get_or xs k d
+closed_past xs i n k d h l b = grind (arith, places)
 
 -- the list of the first n items, without item i
 pub closed_list : {X : Type 0} (xs : List X) (i n : ℕ) → i < n → n ≤ length xs → take (n - 1) (closed_up i n xs) ≡ take i (take n xs) ++ drop (suc i) (take n xs)
@@ -21,6 +37,20 @@ pub copied_down : {X : Type 0} (xs : List X) (i n : ℕ) → i < n → copy_with
 copied_down xs i n h =
     let e : i + (n - suc i) ≡ n - 1 = omega arith in
     simp (append_assoc, add-one) (rw e)
+
+-- the search, an item at a time: it ends at one that passes, goes on past one that does not, and finds none at the end
+
+pub first_more : {X : Type 0} (p : X → Bool) (xs : List X) (i : ℕ) (x : X) → i < length xs → x ≡ get_or xs i x → first_where p i (drop i xs) ≡ cond (p x) (Some i) (first_where p (i + 1) (drop (i + 1) xs))
+first_more p xs i x h e = ap (first_where p i) (drop_more xs i x h) ∙ rw (← e, add-one)
+
+pub first_skip : {X : Type 0} (p : X → Bool) (xs : List X) (i : ℕ) (x : X) → i < length xs → x ≡ get_or xs i x → p x ≡ false → first_where p i (drop i xs) ≡ first_where p (i + 1) (drop (i + 1) xs)
+first_skip p xs i x h e q = first_more p xs i x h e ∙ rw q
+
+pub first_hit : {X : Type 0} (p : X → Bool) (xs : List X) (i : ℕ) (x : X) → i < length xs → x ≡ get_or xs i x → p x ≡ true → first_where p i (drop i xs) ≡ Some i
+first_hit p xs i x h e q = first_more p xs i x h e ∙ rw q
+
+pub first_none : {X : Type 0} (p : X → Bool) (xs : List X) (i : ℕ) → length xs ≤ i → first_where p i (drop i xs) ≡ None
+first_none p xs i h = ap (first_where p i) (drop_all i xs h)
 
 -- the answer i + k, if k is below n
 abbrev place_from : ℕ → ℕ → ℕ → Option ℕ

@@ -1,5 +1,5 @@
 // Shifts and masks of a few bytes as one number: what a field is put into and read from.
-ghost use Rattle.std.specs.Prelude.{◌≡◌, ◌+◌, ◌-◌, ◌*◌, ◌/◌, ◌%◌, ◌^◌, ◌<◌, ◌≤◌, length};
+ghost use Rattle.std.specs.Prelude.{◌≡◌, ◌+◌, ◌-◌, ◌*◌, ◌/◌, ◌%◌, ◌^◌, ◌<◌, ◌≤◌, length, min};
 ghost use Rattle.fields.specs.Bits.{bits, num, bits_of};
 
 /// The byte that a bit lies in.
@@ -14,6 +14,13 @@ pub fn offset_of(bit: usize) -> u32
     ensures { result ≡ bit % 8 }
 {
     (bit & 7) as u32
+}
+
+/// The byte behind those that the bits before an end lie in.
+pub fn behind(end: usize) -> usize
+    ensures { result ≡ end / 8 + min 1 (end % 8) }
+{
+    byte_of(end) + usize::from(offset_of(end) > 0)
 }
 
 /// How many bits of the last byte stand behind those before an end.

@@ -3,7 +3,7 @@ ghost use Rattle.std.specs.Prelude.{◌≡◌, ◌+◌, ◌*◌, ◌%◌, ◌^�
 ghost use Rattle.fields.specs.Bits.{bits, num, bits_of};
 ghost use Rattle.fields.specs.Fields.{run, field as field_at, splice};
 
-use crate::bytes::{byte_of, lay, number_of, part, patch, spare_of};
+use crate::bytes::{behind, byte_of, lay, number_of, part, patch, spare_of};
 
 /// Lays the last `width` bits of a value over those from `at` on.
 #[tactic(auto, using(crate::proofs::Numbers::laid))]
@@ -12,7 +12,7 @@ pub fn put(place: &mut [u8], at: usize, width: u32, value: u32)
     ensures { bits_of place.new ≡ splice (bits_of place.old) at (bits width value) }
 {
     let end = at + width as usize;
-    let bytes = &mut place[byte_of(at)..end.div_ceil(8)];
+    let bytes = &mut place[byte_of(at)..behind(end)];
     let field = part(u64::from(value), width, 0);
     let number = patch(number_of(bytes), field, width, spare_of(end));
     lay(bytes, number);
@@ -26,6 +26,6 @@ pub fn get(bytes: &[u8], at: usize, width: u32) -> u32
     ensures small { result < 2 ^ width }
 {
     let end = at + width as usize;
-    let number = number_of(&bytes[byte_of(at)..end.div_ceil(8)]);
+    let number = number_of(&bytes[byte_of(at)..behind(end)]);
     part(number, width, spare_of(end)) as u32
 }

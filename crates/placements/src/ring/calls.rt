@@ -46,9 +46,14 @@ impl Ring {
         requires { first < self.now.size.sites }
         ensures { result ≡ told self.now.size.sites (in_row self.now.size.sites self.now.copies first) }
     {
-        (0..self.size.sites)
-            .filter(|&l| self.in_row(first, l))
-            .fold(0, with)
+        (0..self.size.sites).fold(
+            0,
+            |set, l| if self.in_row(first, l) {
+                with(set, l)
+            } else {
+                set
+            },
+        )
     }
 }
 
